@@ -1,0 +1,6 @@
+pub mod Refusals
+pub mod Headers
+pub mod Bounds
+pub mod Openings
+pub mod Pairing
+pub mod Sound

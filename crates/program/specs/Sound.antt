@@ -1,0 +1,27 @@
+-- What every program keeps.
+use mathlib.Core.Path.{_≡_}
+use mathlib.Core.Bool.{true, false}
+use mathlib.Core.List.{List, []}
+use Prim.Native.Nat.{ℕ, _<_, _≤_}
+use lib.Dec.{ltb}
+use lib.ListN.{length, getD}
+use Rattle.std.specs.Options.{isSome}
+use Rattle.program.specs.declared.header.Header.{Header}
+use Rattle.instructions.specs.declared.Instruction.{Instruction}
+use Rattle.instructions.specs.declared.Instruction.the-variants.{Again}
+use Rattle.program.specs.Headers.{registersOf, longest, noTable, tableFits, cellsOf}
+use Rattle.program.specs.Bounds.{bound}
+use Rattle.program.specs.Pairing.{pairing}
+
+pub record SoundHeader (h : Header) : Type 0 where
+  pub eight : length (h .tables) ≡ 8
+  pub few : h .used ≤ 8
+  pub tables : (i : ℕ) → i < 8 → tableFits (getD (h .tables) i noTable) (ltb i (h .used)) ≡ true
+  pub cells : cellsOf (h .tables) ≤ 4096
+  pub short : h .count ≤ longest (h .kind)
+  pub narrow : h .«secret_entry» < 65536
+
+pub record SoundCode (h : Header) (code : List Instruction) : Type 0 where
+  pub long : length code ≡ h .count
+  pub bounds : (p : ℕ) → p < h .count → bound (registersOf (h .kind)) (h .used) (getD code p Again) ≡ true
+  pub pairs : isSome (pairing [] 0 code) ≡ false
