@@ -25,27 +25,27 @@ abbrev pub decode : Fields → Instruction
 decode f =
     getD
     (Do (Set (f .d) (Const (f .k)))
-      ∷ Do (Set (f .d) (Move (f .a)))
-      ∷ Do (Set (f .d) (Binary Add (f .a) (f .b)))
-      ∷ Do (Set (f .d) (Binary Sub (f .a) (f .b)))
-      ∷ Do (Set (f .d) (Binary Mul (f .a) (f .b)))
-      ∷ Do (Set (f .d) (Binary And (f .a) (f .b)))
-      ∷ Do (Set (f .d) (Binary Or (f .a) (f .b)))
-      ∷ Do (Set (f .d) (Binary Xor (f .a) (f .b)))
-      ∷ Do (Set (f .d) (Shift Left (f .a) (f .k)))
-      ∷ Do (Set (f .d) (Shift Right (f .a) (f .k)))
-      ∷ Do (Set (f .d) (Shift Rotate (f .a) (f .k)))
-      ∷ Do (Set (f .d) (Binary Below (f .a) (f .b)))
-      ∷ Do (Set (f .d) (Binary Same (f .a) (f .b)))
-      ∷ Do (Pick (f .d) (f .a) (f .b))
-      ∷ Do (Load (f .d) (f .a) (f .b))
-      ∷ Do (Store (f .d) (f .a) (f .b))
-      ∷ If (f .a)
-      ∷ Else
-      ∷ End
-      ∷ Repeat (f .a) (f .k)
-      ∷ Again
-      ∷ [])
+    ∷ Do (Set (f .d) (Move (f .a)))
+    ∷ Do (Set (f .d) (Binary Add (f .a) (f .b)))
+    ∷ Do (Set (f .d) (Binary Sub (f .a) (f .b)))
+    ∷ Do (Set (f .d) (Binary Mul (f .a) (f .b)))
+    ∷ Do (Set (f .d) (Binary And (f .a) (f .b)))
+    ∷ Do (Set (f .d) (Binary Or (f .a) (f .b)))
+    ∷ Do (Set (f .d) (Binary Xor (f .a) (f .b)))
+    ∷ Do (Set (f .d) (Shift Left (f .a) (f .k)))
+    ∷ Do (Set (f .d) (Shift Right (f .a) (f .k)))
+    ∷ Do (Set (f .d) (Shift Rotate (f .a) (f .k)))
+    ∷ Do (Set (f .d) (Binary Below (f .a) (f .b)))
+    ∷ Do (Set (f .d) (Binary Same (f .a) (f .b)))
+    ∷ Do (Pick (f .d) (f .a) (f .b))
+    ∷ Do (Load (f .d) (f .a) (f .b))
+    ∷ Do (Store (f .d) (f .a) (f .b))
+    ∷ If (f .a)
+    ∷ Else
+    ∷ End
+    ∷ Repeat (f .a) (f .k)
+    ∷ Again
+    ∷ [])
     (f .op)
     Again
 

@@ -55,6 +55,6 @@ abbrev pub admitted : Limits → Fields → Bool
 admitted l f =
     ltb (f .op) 21
     && (admits (rowOf (f .op) .d) l (f .d)
-      && (admits (rowOf (f .op) .a) l (f .a)
-        && (admits (rowOf (f .op) .b) l (f .b)
-          && admits (rowOf (f .op) .k) l (f .k))))
+    && (admits (rowOf (f .op) .a) l (f .a)
+    && (admits (rowOf (f .op) .b) l (f .b)
+    && admits (rowOf (f .op) .k) l (f .k))))

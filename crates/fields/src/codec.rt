@@ -15,7 +15,9 @@ use instructions::Value;
 fn set(target: Register, value: Value) -> Instruction
     ensures { λ r. ⌜ r ≡ Do (Set target value) ⌝ }
 {
-    Instruction::Do { op: Op::Set { target, value } }
+    Instruction::Do {
+        op: Op::Set { target, value },
+    }
 }
 
 fn binary(op: BinaryOp, target: Register, left: Register, right: Register) -> Instruction
@@ -49,9 +51,27 @@ pub fn instruction(fields: Fields) -> Instruction
         10 => shift(ShiftOp::Rotate, d, a, k),
         11 => binary(BinaryOp::Below, d, a, b),
         12 => binary(BinaryOp::Same, d, a, b),
-        13 => Instruction::Do { op: Op::Pick { target: d, condition: a, from: b } },
-        14 => Instruction::Do { op: Op::Load { target: d, index: a, table: b } },
-        15 => Instruction::Do { op: Op::Store { from: d, index: a, table: b } },
+        13 => Instruction::Do {
+            op: Op::Pick {
+                target: d,
+                condition: a,
+                from: b,
+            },
+        },
+        14 => Instruction::Do {
+            op: Op::Load {
+                target: d,
+                index: a,
+                table: b,
+            },
+        },
+        15 => Instruction::Do {
+            op: Op::Store {
+                from: d,
+                index: a,
+                table: b,
+            },
+        },
         16 => Instruction::If { condition: a },
         17 => Instruction::Else,
         18 => Instruction::End,
@@ -66,11 +86,41 @@ pub fn fields_of(instruction: Instruction) -> Fields
 {
     match instruction {
         Instruction::Do { op } => op_fields(op),
-        Instruction::If { condition } => Fields { op: 16, d: 0, a: condition, b: 0, k: 0 },
-        Instruction::Else => Fields { op: 17, d: 0, a: 0, b: 0, k: 0 },
-        Instruction::End => Fields { op: 18, d: 0, a: 0, b: 0, k: 0 },
-        Instruction::Repeat { count, most } => Fields { op: 19, d: 0, a: count, b: 0, k: most },
-        Instruction::Again => Fields { op: 20, d: 0, a: 0, b: 0, k: 0 },
+        Instruction::If { condition } => Fields {
+            op: 16,
+            d: 0,
+            a: condition,
+            b: 0,
+            k: 0,
+        },
+        Instruction::Else => Fields {
+            op: 17,
+            d: 0,
+            a: 0,
+            b: 0,
+            k: 0,
+        },
+        Instruction::End => Fields {
+            op: 18,
+            d: 0,
+            a: 0,
+            b: 0,
+            k: 0,
+        },
+        Instruction::Repeat { count, most } => Fields {
+            op: 19,
+            d: 0,
+            a: count,
+            b: 0,
+            k: most,
+        },
+        Instruction::Again => Fields {
+            op: 20,
+            d: 0,
+            a: 0,
+            b: 0,
+            k: 0,
+        },
     }
 }
 
@@ -79,9 +129,35 @@ fn op_fields(op: Op) -> Fields
 {
     match op {
         Op::Set { target, value } => set_fields(target, value),
-        Op::Pick { target, condition, from } => Fields { op: 13, d: target, a: condition, b: from, k: 0 },
-        Op::Load { target, index, table } => Fields { op: 14, d: target, a: index, b: table, k: 0 },
-        Op::Store { from, index, table } => Fields { op: 15, d: from, a: index, b: table, k: 0 },
+        Op::Pick {
+            target,
+            condition,
+            from,
+        } => Fields {
+            op: 13,
+            d: target,
+            a: condition,
+            b: from,
+            k: 0,
+        },
+        Op::Load {
+            target,
+            index,
+            table,
+        } => Fields {
+            op: 14,
+            d: target,
+            a: index,
+            b: table,
+            k: 0,
+        },
+        Op::Store { from, index, table } => Fields {
+            op: 15,
+            d: from,
+            a: index,
+            b: table,
+            k: 0,
+        },
     }
 }
 
@@ -89,10 +165,34 @@ fn set_fields(d: Register, value: Value) -> Fields
     ensures { λ r. ⌜ r ≡ encodeSet d value ⌝ }
 {
     match value {
-        Value::Const { word } => Fields { op: 0, d, a: 0, b: 0, k: word },
-        Value::Move { from } => Fields { op: 1, d, a: from, b: 0, k: 0 },
-        Value::Binary { op, left, right } => Fields { op: binary_code(op), d, a: left, b: right, k: 0 },
-        Value::Shift { op, from, by } => Fields { op: shift_code(op), d, a: from, b: 0, k: by },
+        Value::Const { word } => Fields {
+            op: 0,
+            d,
+            a: 0,
+            b: 0,
+            k: word,
+        },
+        Value::Move { from } => Fields {
+            op: 1,
+            d,
+            a: from,
+            b: 0,
+            k: 0,
+        },
+        Value::Binary { op, left, right } => Fields {
+            op: binary_code(op),
+            d,
+            a: left,
+            b: right,
+            k: 0,
+        },
+        Value::Shift { op, from, by } => Fields {
+            op: shift_code(op),
+            d,
+            a: from,
+            b: 0,
+            k: by,
+        },
     }
 }
 

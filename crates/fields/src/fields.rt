@@ -37,7 +37,10 @@ impl Fields {
         ensures { λ r. ⌜ r ≡ admitted limits self ⌝ }
     {
         match rows::row_of(self.op) {
-            Some(row) => row.d.admits(limits, self.d as u32) && row.a.admits(limits, self.a as u32) && row.b.admits(limits, self.b as u32) && row.k.admits(limits, self.k),
+            Some(row) => row.d.admits(limits, self.d as u32)
+                && row.a.admits(limits, self.a as u32)
+                && row.b.admits(limits, self.b as u32)
+                && row.k.admits(limits, self.k),
             None => false,
         }
     }

@@ -37,17 +37,84 @@ pub struct Limits {
     pub tables: u8,
 }
 
-const CONST: Row = Row { d: Bound::Register, a: Bound::Unused, b: Bound::Unused, k: Bound::Word };
-const MOVE: Row = Row { d: Bound::Register, a: Bound::Register, b: Bound::Unused, k: Bound::Unused };
-const THREE: Row = Row { d: Bound::Register, a: Bound::Register, b: Bound::Register, k: Bound::Unused };
-const SHIFT: Row = Row { d: Bound::Register, a: Bound::Register, b: Bound::Unused, k: Bound::Shift };
-const ACCESS: Row = Row { d: Bound::Register, a: Bound::Register, b: Bound::Table, k: Bound::Unused };
-const IF: Row = Row { d: Bound::Unused, a: Bound::Register, b: Bound::Unused, k: Bound::Unused };
-const REPEAT: Row = Row { d: Bound::Unused, a: Bound::Register, b: Bound::Unused, k: Bound::Rounds };
-const BARE: Row = Row { d: Bound::Unused, a: Bound::Unused, b: Bound::Unused, k: Bound::Unused };
+const CONST: Row = Row {
+    d: Bound::Register,
+    a: Bound::Unused,
+    b: Bound::Unused,
+    k: Bound::Word,
+};
+
+const MOVE: Row = Row {
+    d: Bound::Register,
+    a: Bound::Register,
+    b: Bound::Unused,
+    k: Bound::Unused,
+};
+
+const THREE: Row = Row {
+    d: Bound::Register,
+    a: Bound::Register,
+    b: Bound::Register,
+    k: Bound::Unused,
+};
+
+const SHIFT: Row = Row {
+    d: Bound::Register,
+    a: Bound::Register,
+    b: Bound::Unused,
+    k: Bound::Shift,
+};
+
+const ACCESS: Row = Row {
+    d: Bound::Register,
+    a: Bound::Register,
+    b: Bound::Table,
+    k: Bound::Unused,
+};
+
+const IF: Row = Row {
+    d: Bound::Unused,
+    a: Bound::Register,
+    b: Bound::Unused,
+    k: Bound::Unused,
+};
+
+const REPEAT: Row = Row {
+    d: Bound::Unused,
+    a: Bound::Register,
+    b: Bound::Unused,
+    k: Bound::Rounds,
+};
+
+const BARE: Row = Row {
+    d: Bound::Unused,
+    a: Bound::Unused,
+    b: Bound::Unused,
+    k: Bound::Unused,
+};
 
 const ROWS: [Row; 21] = [
-    CONST, MOVE, THREE, THREE, THREE, THREE, THREE, THREE, SHIFT, SHIFT, SHIFT, THREE, THREE, THREE, ACCESS, ACCESS, IF, BARE, BARE, REPEAT, BARE,
+    CONST,
+    MOVE,
+    THREE,
+    THREE,
+    THREE,
+    THREE,
+    THREE,
+    THREE,
+    SHIFT,
+    SHIFT,
+    SHIFT,
+    THREE,
+    THREE,
+    THREE,
+    ACCESS,
+    ACCESS,
+    IF,
+    BARE,
+    BARE,
+    REPEAT,
+    BARE,
 ];
 
 impl Bound {
@@ -69,5 +136,9 @@ impl Bound {
 pub fn row_of(op: u8) -> Option<Row>
     ensures { λ r. ⌜ BySome r (21 ≤ op) (λ row. (op < 21) × (row ≡ rowOf op)) ⌝ }
 {
-    if op < 21 { Some(ROWS[op as usize]) } else { None }
+    if op < 21 {
+        Some(ROWS[op as usize])
+    } else {
+        None
+    }
 }

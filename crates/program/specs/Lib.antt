@@ -4,3 +4,4 @@ pub mod Bounds
 pub mod Openings
 pub mod Pairing
 pub mod Sound
+pub mod Blocks

@@ -1,4 +1,6 @@
 // What may be open around a place.
+ghost use mathlib.Core.Path.{_≡_};
+ghost use Rattle.program.specs.Openings.{openedAt};
 use instructions::Register;
 
 /// An opening that is not closed yet: a bracket's place, an if's condition, and past its else the
@@ -17,4 +19,17 @@ pub enum Opening {
     Loop {
         place: usize,
     },
+}
+
+impl Opening {
+    /// The place of the bracket that opened it.
+    pub fn place(self) -> usize
+        ensures { λ r. ⌜ r ≡ openedAt self ⌝ }
+    {
+        match self {
+            Opening::Then { place, .. } => place,
+            Opening::Otherwise { place, .. } => place,
+            Opening::Loop { place } => place,
+        }
+    }
 }
