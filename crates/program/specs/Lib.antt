@@ -5,3 +5,4 @@ pub mod Openings
 pub mod Pairing
 pub mod Sound
 pub mod Blocks
+pub mod Firsts

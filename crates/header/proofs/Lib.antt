@@ -1,0 +1,4 @@
+pub mod Choosing
+pub mod Parts
+pub mod Written
+pub mod Refusing

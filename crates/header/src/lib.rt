@@ -1,0 +1,3 @@
+// The header of an image: 64 bytes.
+pub mod decode;
+pub mod encode;
