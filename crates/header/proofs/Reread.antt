@@ -96,7 +96,7 @@ module _ (h : Header) (rest : List ℕ) (sound : SoundHeader h) where
       let t = getD (h .tables) k noTable in
       and-from (leb (getD bs (8 + 4 * k + 2) 0) 1) _ (ap (λ x. leb x 1) (entry-at k 2 hk (omega arith)) ∙ label-small (t .secret))
       (and-from (eqb (getD bs (8 + 4 * k + 3) 0) 0) _ (eq-eqb _ _ (entry-at k 3 hk (omega arith)))
-        (ap (λ x. tableFits x (ltb k (h .used))) (table-at k hk) ∙ sound .tables k hk))
+      (ap (λ x. tableFits x (ltb k (h .used))) (table-at k hk) ∙ sound .tables k hk))
 
   tables-at : tablesAt (headerBytes h ++ rest) ≡ h .tables
   unfolding tablesAt
@@ -139,9 +139,9 @@ module _ (h : Header) (rest : List ℕ) (sound : SoundHeader h) where
       let bs = headerBytes h ++ rest in
       and-from _ _ (eq-eqb (getD bs 0 0) 1 low-at)
       (and-from _ _ (eq-eqb (getD bs 1 0) 0 high-at)
-        (and-from _ _ (le-leb (getD bs 2 0) 8 (omega (arith, used-at, sound .few)))
-          (and-from _ _ (ap (λ x. leb x 1) kind-at ∙ kind-small (h .kind))
-            (and-from _ _ (ap (λ u. allBelow (entryGood bs u) 8) used-at ∙ all-true (entryGood bs (h .used)) 8 entry-good)
-              (and-from _ _ ((λ i. leb (count-at i) (longest (kind-is i))) ∙ le-leb (h .count) (longest (h .kind)) (sound .short))
-                (and-from _ _ (ap (λ ts. leb (cellsOf ts) 4096) tables-at ∙ le-leb (cellsOf (h .tables)) 4096 (sound .cells))
-                  (all-true (zeroFrom40 bs) 24 (λ k l. eq-eqb _ _ (zero-at k l)))))))))
+      (and-from _ _ (le-leb (getD bs 2 0) 8 (omega (arith, used-at, sound .few)))
+      (and-from _ _ (ap (λ x. leb x 1) kind-at ∙ kind-small (h .kind))
+      (and-from _ _ (ap (λ u. allBelow (entryGood bs u) 8) used-at ∙ all-true (entryGood bs (h .used)) 8 entry-good)
+      (and-from _ _ ((λ i. leb (count-at i) (longest (kind-is i))) ∙ le-leb (h .count) (longest (h .kind)) (sound .short))
+      (and-from _ _ (ap (λ ts. leb (cellsOf ts) 4096) tables-at ∙ le-leb (cellsOf (h .tables)) 4096 (sound .cells))
+      (all-true (zeroFrom40 bs) 24 (λ k l. eq-eqb _ _ (zero-at k l)))))))))

@@ -106,10 +106,10 @@ module _ (bs : List ℕ) (small : Bytes bs) where
     unfolding startBytes headerAt
     start-back =
         (λ t.
-            sym (good .low) t ∷ sym (good .high) t ∷ getD bs 2 0 ∷ kind-back (getD bs 3 0) (good .kind) t
-            ∷ pair-low (getD bs 4 0) (getD bs 5 0) (small 4) t ∷ pair-high (getD bs 4 0) (getD bs 5 0) (small 4) (small 5) t
-            ∷ pair-low (getD bs 6 0) (getD bs 7 0) (small 6) t ∷ pair-high (getD bs 6 0) (getD bs 7 0) (small 6) (small 7) t
-            ∷ [])
+        sym (good .low) t ∷ sym (good .high) t ∷ getD bs 2 0 ∷ kind-back (getD bs 3 0) (good .kind) t
+        ∷ pair-low (getD bs 4 0) (getD bs 5 0) (small 4) t ∷ pair-high (getD bs 4 0) (getD bs 5 0) (small 4) (small 5) t
+        ∷ pair-low (getD bs 6 0) (getD bs 7 0) (small 6) t ∷ pair-high (getD bs 6 0) (getD bs 7 0) (small 6) (small 7) t
+        ∷ [])
         ∙ sym (chunk-is bs 0 8 (omega arith))
 
     entry-back : (k : ℕ) → k < 8 → entryBytes (tableAt bs k) ≡ take 4 (drop (8 + 4 * k) bs)
@@ -120,9 +120,9 @@ module _ (bs : List ℕ) (small : Bytes bs) where
         let last = eqb-true (getD bs (8 + 4 * k + 3) 0) 0 (b .0) in
         let e0 : 8 + 4 * k ≡ 8 + 4 * k + 0 = omega arith in
         (λ t.
-            (pair-low (getD bs (8 + 4 * k) 0) (getD bs (8 + 4 * k + 1) 0) (small _) ∙ ap (λ j. getD bs j 0) e0) t
-            ∷ pair-high (getD bs (8 + 4 * k) 0) (getD bs (8 + 4 * k + 1) 0) (small _) (small _) t
-            ∷ label t ∷ sym last t ∷ [])
+        (pair-low (getD bs (8 + 4 * k) 0) (getD bs (8 + 4 * k + 1) 0) (small _) ∙ ap (λ j. getD bs j 0) e0) t
+        ∷ pair-high (getD bs (8 + 4 * k) 0) (getD bs (8 + 4 * k + 1) 0) (small _) (small _) t
+        ∷ label t ∷ sym last t ∷ [])
         ∙ sym (chunk-is bs (8 + 4 * k) 4 (omega arith))
 
     tables-back : joined entryBytes (tablesAt bs) ≡ take 32 (drop 8 bs)
@@ -133,7 +133,7 @@ module _ (bs : List ℕ) (small : Bytes bs) where
     zeros-back =
         let room : 24 ≤ length (drop 40 bs) = omega (arith, length-drop 40 bs) in
         sym (fill-by-all (λ _. 0) (take 24 (drop 40 bs)) 24 0 (length-take-le 24 (drop 40 bs) room)
-          (λ k h. getD-take 24 (drop 40 bs) k 0 h ∙ getD-drop 40 bs k 0 ∙ eqb-true _ _ (good .rest k h)))
+        (λ k h. getD-take 24 (drop 40 bs) k 0 h ∙ getD-drop 40 bs k 0 ∙ eqb-true _ _ (good .rest k h)))
 
     bytes-back : headerBytes (headerAt bs) ≡ take 64 bs
     unfolding headerBytes headerAt

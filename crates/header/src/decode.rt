@@ -1,7 +1,7 @@
 // From bytes to a header.
 ghost use mathlib.Core.Path.{_≡_};
 ghost use mathlib.Core.Bool.{cond};
-ghost use Prim.Native.Nat.{_<_, _≤_};
+ghost use Prim.Native.Nat.{_+_, _*_, _<_, _≤_};
 ghost use lib.Dec.{leb};
 ghost use lib.ListN.{length};
 ghost use Rattle.std.specs.Vec.{made};
@@ -132,7 +132,7 @@ fn header(image: &[u8]) -> Option<Header>
 /// The header of an image as long as its header says.
 pub fn decode(image: &[u8]) -> Result<Header, Refusal>
     ensures refusal { λ r. ⌜ refusedBy r ≡ headerRefusal (now (image .entry)) ⌝ }
-    ensures value { λ r. ⌜ made r (λ h. h ≡ headerAt (now (image .entry))) ⌝ }
+    ensures value { λ r. ⌜ made r (λ h. (h ≡ headerAt (now (image .entry))) × (length (now (image .entry)) ≡ 64 + 8 * h .count)) ⌝ }
 {
     if image.len() < 64 {
         return Err(Refusal {

@@ -26,4 +26,4 @@ returns c =
     let is = cond-some (headerGood bs) (headerAt bs) (c .in-Some .header) (c .in-Some .ensures tt) in
     let n = count-is bs (c .in-Some .header) (is .1) in
     let same : eqb (length bs) (64 + 8 * pairAt bs 4) ≡ true = eq-eqb _ _ (omega (arith, n)) in
-    record { refusal = sym (good-refusal bs (omega arith) (is .0) ∙ ap (λ b. unless b BadLength 0) same); value = is .1 }
+    record { refusal = sym (good-refusal bs (omega arith) (is .0) ∙ ap (λ b. unless b BadLength 0) same); value = (is .1, omega arith) }

@@ -1,0 +1,5 @@
+pub mod Loops
+pub mod Trips
+pub mod Answering
+pub mod Accepting
+pub mod Writing
