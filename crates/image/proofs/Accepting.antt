@@ -18,12 +18,13 @@ use Rattle.program.specs.declared.refusal.Reason.the-variants.{NoRoomForCode}
 use Rattle.program.specs.declared.refusal.Refusal.{Refusal}
 use Rattle.program.specs.Refusals.{refusal, unless, orElse}
 use Rattle.program.specs.Blocks.{Nested}
-use Rattle.program.specs.Sound.{SoundHeader, SoundCode}
+use Rattle.program.specs.Sound.{SoundHeader, SoundList}
 use Rattle.header.specs.Layout.{headerAt}
 use Rattle.header.proofs.Rewritten.{Bytes, header-sound}
 use Rattle.brackets.proofs.Nesting.{paired-is-nested}
 use Rattle.image.specs.Images.{instructionAt, instructions, codeOf, imageRefusal, readRefusal, imageOf}
 use Rattle.image.specs.Reading.{Accepted, codeIn}
+use Rattle.image.proofs.Sounding.{SoundCode, as-list}
 use Rattle.image.proofs.Answering.{header-good, code-sound, image-rewritten, brackets-passed}
 
 module _ (bs : List ℕ) (room : ℕ) where
@@ -51,13 +52,13 @@ module _ (bs : List ℕ) (h : Header) (is : h ≡ headerAt bs) (none : None ≡ 
         ∙ take-at (instructions (drop 64 bs) (h .count)) (drop (h .count) before) (h .count) (length-map-counting (instructionAt (drop 64 bs)) 0 (h .count))
         ∙ ap (λ x. instructions (drop 64 bs) (x .count)) is
 
-    pub sound-code : SoundCode h (take (h .count) list)
-    sound-code = subst (SoundCode h) (sym code-is) (subst (λ (x : Header). SoundCode x (codeOf bs)) (sym is) (code-sound bs (sym none)))
-
-    pub room-after : h .count ≤ length before → h .count ≤ length list
+    room-after : h .count ≤ length before → h .count ≤ length list
     room-after le =
         let n = length-map-counting (instructionAt (drop 64 bs)) 0 (h .count) in
         omega (arith, ap length filled, length-append (instructions (drop 64 bs) (h .count)) (drop (h .count) before))
+
+    pub sound-list : h .count ≤ length before → SoundList h list
+    sound-list le = as-list h list (room-after le) (subst (SoundCode h) (sym code-is) (subst (λ (x : Header). SoundCode x (codeOf bs)) (sym is) (code-sound bs (sym none))))
 
     pub rewritten : Bytes bs → length bs ≡ 64 + 8 * h .count → imageOf h (take (h .count) list) ≡ bs
     rewritten small size = (λ t. imageOf (is t) (code-is t)) ∙ image-rewritten bs small (size ∙ ap (λ x. 64 + 8 * x .count) is) (sym none)

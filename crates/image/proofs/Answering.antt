@@ -24,7 +24,6 @@ use Rattle.program.specs.Bounds.{bound}
 use Rattle.program.specs.Firsts.{firstFailing}
 use Rattle.program.specs.Pairing.{pairing}
 use Rattle.program.specs.Blocks.{Nested}
-use Rattle.program.specs.Sound.{SoundHeader, SoundCode}
 use Rattle.program.proofs.Firsts.{none-failing}
 use Rattle.fields.specs.declared.fields.Fields.{Fields}
 use Rattle.fields.specs.declared.rows.Limits.{Limits}
@@ -36,6 +35,7 @@ use Rattle.header.specs.Layout.{headerAt, headerGood, headerRefusal, headerByte
 use Rattle.header.proofs.Rewritten.{Bytes, header-rewritten, header-sound}
 use Rattle.brackets.proofs.Nesting.{paired-is-nested}
 use Rattle.image.specs.Images.{limitsOf, instructionAt, instructions, codeOf, fieldsGood, fieldsRefusal, imageRefusal, imageOf, codeBytes}
+use Rattle.image.proofs.Sounding.{SoundCode}
 use Rattle.image.proofs.Trips.{code-rewritten}
 
 module _ (bs : List ℕ) (h : Header) (good : None ≡ headerRefusal bs) (is : h ≡ headerAt bs) where

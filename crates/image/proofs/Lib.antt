@@ -3,3 +3,4 @@ pub mod Trips
 pub mod Answering
 pub mod Accepting
 pub mod Writing
+pub mod Sounding

@@ -24,7 +24,7 @@ use Rattle.program.specs.Refusals.{unless, orElse}
 use Rattle.program.specs.Headers.{registersOf}
 use Rattle.program.specs.Bounds.{bound}
 use Rattle.program.specs.Pairing.{pairing}
-use Rattle.program.specs.Sound.{SoundHeader, SoundCode}
+use Rattle.program.specs.Sound.{SoundHeader}
 use Rattle.program.proofs.Firsts.{failing-none}
 use Rattle.fields.specs.Rows.{admitted}
 use Rattle.fields.specs.Codec.{encode}
@@ -36,6 +36,7 @@ use Rattle.header.proofs.Reread.{header-reread, header-good, count-at}
 use Rattle.image.specs.Images.{limitsOf, instructions, codeOf, fieldsGood, fieldsRefusal, imageRefusal, instructionBytes, codeBytes, imageOf, imageLength}
 use Rattle.image.specs.Reading.{codeIn}
 use Rattle.image.specs.Writing.{writeAnswer, ReadAs}
+use Rattle.image.proofs.Sounding.{SoundCode, as-code}
 use Rattle.image.proofs.Trips.{length-instruction, bound-word, fields-reread, code-reread}
 
 none-of : (o : Option Refusal) → isSome o ≡ false → o ≡ None
@@ -86,11 +87,7 @@ header-of : (p : Program) → SoundHeader (p .header)
 header-of p = record { eight = p .eight; few = p .few; tables = p .tables; cells = p .cells; short = p .short; narrow = p .narrow }
 
 code-of : (p : Program) → SoundCode (p .header) (codeIn p)
-code-of p = record {
-  long = length-take-le (p .header .count) (vec-items (p .list)) (p .room);
-  bounds = λ k lt. ap (bound (registersOf (p .header .kind)) (p .header .used)) (getD-take (p .header .count) (vec-items (p .list)) k Again lt) ∙ p .bounds k lt;
-  pairs = p .pairs;
-}
+code-of p = as-code (p .header) (vec-items (p .list)) (record { room = p .room; bounds = p .bounds; pairs = p .pairs })
 
 pub answered : (p : Program) (room : ℕ) → imageLength (p .header) ≤ room → Ok (imageLength (p .header)) ≡ writeAnswer p room
 answered p room le = sym (cond-false _ _ _ (le-ltb room (imageLength (p .header)) le))

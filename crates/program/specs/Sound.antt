@@ -4,7 +4,7 @@ use mathlib.Core.Bool.{true, false}
 use mathlib.Core.List.{List, []}
 use Prim.Native.Nat.{ℕ, _<_, _≤_}
 use lib.Dec.{ltb}
-use lib.ListN.{length, getD}
+use lib.ListN.{length, getD, take}
 use Rattle.std.specs.Options.{isSome}
 use Rattle.program.specs.declared.header.Header.{Header}
 use Rattle.instructions.specs.declared.Instruction.{Instruction}
@@ -21,7 +21,8 @@ pub record SoundHeader (h : Header) : Type 0 where
   pub short : h .count ≤ longest (h .kind)
   pub narrow : h .«secret_entry» < 65536
 
-pub record SoundCode (h : Header) (code : List Instruction) : Type 0 where
-  pub long : length code ≡ h .count
-  pub bounds : (p : ℕ) → p < h .count → bound (registersOf (h .kind)) (h .used) (getD code p Again) ≡ true
-  pub pairs : isSome (pairing [] 0 code) ≡ false
+-- the first entries of a list, as many as the header says, are its instructions
+pub record SoundList (h : Header) (list : List Instruction) : Type 0 where
+  pub room : h .count ≤ length list
+  pub bounds : (p : ℕ) → p < h .count → bound (registersOf (h .kind)) (h .used) (getD list p Again) ≡ true
+  pub pairs : isSome (pairing [] 0 (take (h .count) list)) ≡ false

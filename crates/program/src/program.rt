@@ -11,7 +11,7 @@ ghost use Rattle.instructions.specs.declared.Instruction.the-variants.{Again};
 ghost use Rattle.program.specs.Headers.{registersOf, longest, noTable, tableFits, cellsOf};
 ghost use Rattle.program.specs.Bounds.{bound};
 ghost use Rattle.program.specs.Pairing.{pairing};
-ghost use Rattle.program.specs.Sound.{SoundHeader, SoundCode};
+ghost use Rattle.program.specs.Sound.{SoundHeader, SoundList};
 use crate::header::Header;
 use instructions::Instruction;
 
@@ -36,8 +36,7 @@ impl Program {
     /// A header and the list whose first entries are its instructions.
     pub fn new(header: Header, list: Vec<Instruction>) -> Program
         requires header { ⌜ SoundHeader header ⌝ }
-        requires room { ⌜ header .count ≤ length (vec-items list) ⌝ }
-        requires code { ⌜ SoundCode header (take (header .count) (vec-items list)) ⌝ }
+        requires list { ⌜ SoundList header (vec-items list) ⌝ }
         ensures header { λ r. ⌜ r .header ≡ header ⌝ }
         ensures list { λ r. ⌜ r .list ≡ list ⌝ }
     {

@@ -8,7 +8,7 @@ use Rattle.program.specs.Blocks.{Nested}
 use Rattle.header.proofs.Rewritten.{Bytes}
 use Rattle.image.specs.Images.{instructions, imageOf}
 use Rattle.image.proofs.Answering.{not-nested, room-not-brackets}
-use Rattle.image.proofs.Accepting.{refused-anyway, no-room, has-room, sound-header, sound-code, room-after, rewritten, nested, list-is}
+use Rattle.image.proofs.Accepting.{refused-anyway, no-room, has-room, sound-header, sound-list, rewritten, nested, list-is}
 use Rattle.image.proofs.reader.read.Needs as need
 use Rattle.image.proofs.reader.read.Needs.{After-fill}
 
@@ -52,8 +52,7 @@ new-requires c κs =
     let long = c .args .list .ok .0 in
     record {
       header = sound-header bs h is none (bytes c);
-      room = room-after bs h is none (vec-items (c .args .list)) (vec-items (c .fill .last .list)) (filled c) (omega arith);
-      code = sound-code bs h is none (vec-items (c .args .list)) (vec-items (c .fill .last .list)) (filled c);
+      list = sound-list bs h is none (vec-items (c .args .list)) (vec-items (c .fill .last .list)) (filled c) (omega arith);
     }
 
 pub returns : need.returns
