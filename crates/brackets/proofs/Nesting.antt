@@ -20,7 +20,7 @@ use Rattle.program.specs.declared.refusal.Refusal.{Refusal}
 use Rattle.program.specs.Refusals.{refusal, unless, orElse}
 use Rattle.program.specs.Pairing.{pairing, wrong}
 use Rattle.program.specs.Openings.{past}
-use Rattle.program.specs.Blocks.{Block, done, one, ifThen, ifElse, loop, flat, depth, Nested}
+use Rattle.program.specs.Blocks.{Block, done, one, ifThen, ifElse, loop, flat, depth, fin, Nested}
 use Rattle.brackets.specs.Nesting.{Paired-is-nested}
 
 no-some : {X : Type 0} {x : X} → Some x ≡ None → ⊥
@@ -123,14 +123,6 @@ module _ (Note : Type 0) where
 
   root : {r : Rest} → Fits [] r → (b : Block Note) × (r ≡ base b)
   root (fBase {b = b}) = (b, refl)
-
-  -- the place after a block that begins at p
-  abbrev pub fin : Block Note → ℕ → ℕ
-  fin done p = p
-  fin (one op b) p = fin b (suc p)
-  fin (ifThen n a t b) p = fin b (suc (fin t (suc p)))
-  fin (ifElse n a t e b) p = fin b (suc (fin e (suc (fin t (suc p)))))
-  fin (loop a k t b) p = fin b (suc (fin t (suc p)))
 
   -- a block whose brackets pair is shallow, and what follows it pairs
   shallow : (b : Block Note) (os : List Opening) (p : ℕ) (rest : List Instruction) → length os ≤ 8 → pairing os p (flat b rest) ≡ None → (depth b + length os ≤ 8) × (pairing os (fin b p) rest ≡ None)

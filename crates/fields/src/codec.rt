@@ -1,9 +1,10 @@
 // Fields and instructions, turned into each other.
 ghost use mathlib.Core.Path.{_≡_};
-ghost use Rattle.fields.specs.Codec.{decode, encode, encodeOp, encodeSet, binaryCode, shiftCode};
 ghost use Rattle.instructions.specs.declared.Value.the-variants.{Binary, Shift};
-ghost use Rattle.instructions.specs.declared.Op.the-variants.{Set};
+ghost use Rattle.instructions.specs.declared.Op.the-variants.{Set, Pick, Load, Store};
 ghost use Rattle.instructions.specs.declared.Instruction.the-variants.{Do};
+ghost use Rattle.fields.specs.Fields.{fields as fieldsOf};
+ghost use Rattle.fields.specs.Codec.{decode, encode, encodeOp, encodeSet, binaryCode, shiftCode};
 use crate::fields::Fields;
 use instructions::BinaryOp;
 use instructions::Instruction;
@@ -15,9 +16,8 @@ use instructions::Value;
 fn set(target: Register, value: Value) -> Instruction
     ensures { λ r. ⌜ r ≡ Do (Set target value) ⌝ }
 {
-    Instruction::Do {
-        op: Op::Set { target, value },
-    }
+    let op = Op::Set { target, value };
+    Instruction::Do { op }
 }
 
 fn binary(op: BinaryOp, target: Register, left: Register, right: Register) -> Instruction
@@ -30,6 +30,35 @@ fn shift(op: ShiftOp, target: Register, from: Register, by: u32) -> Instruction
     ensures { λ r. ⌜ r ≡ Do (Set target (Shift op from by)) ⌝ }
 {
     set(target, Value::Shift { op, from, by })
+}
+
+fn pick(target: Register, condition: Register, from: Register) -> Instruction
+    ensures { λ r. ⌜ r ≡ Do (Pick target condition from) ⌝ }
+{
+    let op = Op::Pick {
+        target,
+        condition,
+        from,
+    };
+    Instruction::Do { op }
+}
+
+fn load(target: Register, index: Register, table: u8) -> Instruction
+    ensures { λ r. ⌜ r ≡ Do (Load target index table) ⌝ }
+{
+    let op = Op::Load {
+        target,
+        index,
+        table,
+    };
+    Instruction::Do { op }
+}
+
+fn store(from: Register, index: Register, table: u8) -> Instruction
+    ensures { λ r. ⌜ r ≡ Do (Store from index table) ⌝ }
+{
+    let op = Op::Store { from, index, table };
+    Instruction::Do { op }
 }
 
 /// The instruction of these fields.
@@ -51,27 +80,9 @@ pub fn instruction(fields: Fields) -> Instruction
         10 => shift(ShiftOp::Rotate, d, a, k),
         11 => binary(BinaryOp::Below, d, a, b),
         12 => binary(BinaryOp::Same, d, a, b),
-        13 => Instruction::Do {
-            op: Op::Pick {
-                target: d,
-                condition: a,
-                from: b,
-            },
-        },
-        14 => Instruction::Do {
-            op: Op::Load {
-                target: d,
-                index: a,
-                table: b,
-            },
-        },
-        15 => Instruction::Do {
-            op: Op::Store {
-                from: d,
-                index: a,
-                table: b,
-            },
-        },
+        13 => pick(d, a, b),
+        14 => load(d, a, b),
+        15 => store(d, a, b),
         16 => Instruction::If { condition: a },
         17 => Instruction::Else,
         18 => Instruction::End,
@@ -80,47 +91,23 @@ pub fn instruction(fields: Fields) -> Instruction
     }
 }
 
+fn five(op: u8, d: u8, a: u8, b: u8, k: u32) -> Fields
+    ensures { λ r. ⌜ r ≡ fieldsOf op d a b k ⌝ }
+{
+    Fields { op, d, a, b, k }
+}
+
 /// The fields of an instruction.
 pub fn fields_of(instruction: Instruction) -> Fields
     ensures { λ r. ⌜ r ≡ encode instruction ⌝ }
 {
     match instruction {
         Instruction::Do { op } => op_fields(op),
-        Instruction::If { condition } => Fields {
-            op: 16,
-            d: 0,
-            a: condition,
-            b: 0,
-            k: 0,
-        },
-        Instruction::Else => Fields {
-            op: 17,
-            d: 0,
-            a: 0,
-            b: 0,
-            k: 0,
-        },
-        Instruction::End => Fields {
-            op: 18,
-            d: 0,
-            a: 0,
-            b: 0,
-            k: 0,
-        },
-        Instruction::Repeat { count, most } => Fields {
-            op: 19,
-            d: 0,
-            a: count,
-            b: 0,
-            k: most,
-        },
-        Instruction::Again => Fields {
-            op: 20,
-            d: 0,
-            a: 0,
-            b: 0,
-            k: 0,
-        },
+        Instruction::If { condition } => five(16, 0, condition, 0, 0),
+        Instruction::Else => five(17, 0, 0, 0, 0),
+        Instruction::End => five(18, 0, 0, 0, 0),
+        Instruction::Repeat { count, most } => five(19, 0, count, 0, most),
+        Instruction::Again => five(20, 0, 0, 0, 0),
     }
 }
 
@@ -133,31 +120,13 @@ fn op_fields(op: Op) -> Fields
             target,
             condition,
             from,
-        } => Fields {
-            op: 13,
-            d: target,
-            a: condition,
-            b: from,
-            k: 0,
-        },
+        } => five(13, target, condition, from, 0),
         Op::Load {
             target,
             index,
             table,
-        } => Fields {
-            op: 14,
-            d: target,
-            a: index,
-            b: table,
-            k: 0,
-        },
-        Op::Store { from, index, table } => Fields {
-            op: 15,
-            d: from,
-            a: index,
-            b: table,
-            k: 0,
-        },
+        } => five(14, target, index, table, 0),
+        Op::Store { from, index, table } => five(15, from, index, table, 0),
     }
 }
 
@@ -165,34 +134,10 @@ fn set_fields(d: Register, value: Value) -> Fields
     ensures { λ r. ⌜ r ≡ encodeSet d value ⌝ }
 {
     match value {
-        Value::Const { word } => Fields {
-            op: 0,
-            d,
-            a: 0,
-            b: 0,
-            k: word,
-        },
-        Value::Move { from } => Fields {
-            op: 1,
-            d,
-            a: from,
-            b: 0,
-            k: 0,
-        },
-        Value::Binary { op, left, right } => Fields {
-            op: binary_code(op),
-            d,
-            a: left,
-            b: right,
-            k: 0,
-        },
-        Value::Shift { op, from, by } => Fields {
-            op: shift_code(op),
-            d,
-            a: from,
-            b: 0,
-            k: by,
-        },
+        Value::Const { word } => five(0, d, 0, 0, word),
+        Value::Move { from } => five(1, d, from, 0, 0),
+        Value::Binary { op, left, right } => five(binary_code(op), d, left, right, 0),
+        Value::Shift { op, from, by } => five(shift_code(op), d, from, 0, by),
     }
 }
 

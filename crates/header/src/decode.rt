@@ -16,6 +16,12 @@ use program::header::Table;
 use program::refusal::Reason;
 use program::refusal::Refusal;
 
+const HEADER: usize = 64;
+
+const MOST_TABLES: u8 = 8;
+
+const MOST_CELLS: u32 = 4096;
+
 fn kind_of(code: u8) -> Option<Kind>
     ensures { λ r. ⌜ r ≡ cond (leb code 1) (Some (kindOf code)) None ⌝ }
 {
@@ -102,7 +108,7 @@ fn header(image: &[u8]) -> Option<Header>
     ensures { λ r. ⌜ r ≡ cond (headerGood (now (image .entry))) (Some (headerAt (now (image .entry)))) None ⌝ }
 {
     let used = image[2];
-    if image[0] != 1 || image[1] != 0 || used > 8 {
+    if image[0] != 1 || image[1] != 0 || used > MOST_TABLES {
         return None;
     }
     let Some(kind) = kind_of(image[3]) else {
@@ -113,7 +119,7 @@ fn header(image: &[u8]) -> Option<Header>
     };
     let count = u16::from_le_bytes([image[4], image[5]]);
     let secret_entry = u16::from_le_bytes([image[6], image[7]]);
-    if count > kind.longest() || cells(&tables) > 4096 {
+    if count > kind.longest() || cells(&tables) > MOST_CELLS {
         return None;
     }
     if rest_is_zero(image) {
@@ -134,7 +140,7 @@ pub fn decode(image: &[u8]) -> Result<Header, Refusal>
     ensures refusal { λ r. ⌜ refusedBy r ≡ headerRefusal (now (image .entry)) ⌝ }
     ensures value { λ r. ⌜ made r (λ h. (h ≡ headerAt (now (image .entry))) × (length (now (image .entry)) ≡ 64 + 8 * h .count)) ⌝ }
 {
-    if image.len() < 64 {
+    if image.len() < HEADER {
         return Err(Refusal {
             reason: Reason::NoHeader,
             place: 0,
@@ -146,7 +152,7 @@ pub fn decode(image: &[u8]) -> Result<Header, Refusal>
             place: 0,
         });
     };
-    if image.len() != 64 + 8 * header.count as usize {
+    if image.len() != HEADER + 8 * header.count as usize {
         return Err(Refusal {
             reason: Reason::BadLength,
             place: 0,

@@ -31,6 +31,14 @@ module _ {Note : Type 0} where
   depth (ifElse n a t e b) = max (suc (max (depth t) (depth e))) (depth b)
   depth (loop a k t b) = max (suc (depth t)) (depth b)
 
+  -- the place after a block that begins at p
+  abbrev pub fin : Block Note → ℕ → ℕ
+  fin done p = p
+  fin (one op b) p = fin b (suc p)
+  fin (ifThen n a t b) p = fin b (suc (fin t (suc p)))
+  fin (ifElse n a t e b) p = fin b (suc (fin e (suc (fin t (suc p)))))
+  fin (loop a k t b) p = fin b (suc (fin t (suc p)))
+
 -- the row is the writing-out of nested blocks, at most eight deep
 abbrev pub Nested : List Instruction → Type 0
 Nested code = (b : Block (Unit {0})) × (flat b [] ≡ code) × (depth b ≤ 8)

@@ -12,7 +12,7 @@ use Rattle.program.specs.Firsts.{allBelow}
 use Rattle.header.specs.Layout.{headerGood, headerAt, tablesAt, entryGood, kindOf, pairAt, zeroFrom40}
 use Rattle.header.proofs.Choosing.{cond-none, cond-some}
 use Rattle.header.proofs.decode.header.Needs as need
-use Rattle.header.proofs.decode.header.Needs.{then-image-ne1·by·then-image-ne1, then-image-ne1·by·else-image-ne1·then-image-ne0, then-image-ne1·by·else-image-ne1·else-image-ne0·then-used-gt8, then-count-longest·by·then-count-longest, then-count-longest·by·else-count-longest·then-cells-gt4096}
+use Rattle.header.proofs.decode.header.Needs.{then-image-ne1·by·then-image-ne1, then-image-ne1·by·else-image-ne1·then-image-ne0, then-image-ne1·by·else-image-ne1·else-image-ne0·then-used-gt-MOST-TABLES, then-count-longest·by·then-count-longest, then-count-longest·by·else-count-longest·then-cells-gt-MOST-CELLS}
 
 pub returns-then-image-ne1 : need.returns-then-image-ne1
 unfolding headerGood
@@ -22,7 +22,7 @@ returns-then-image-ne1 c =
     elim (c .then-image-ne1 .came) [
       | then-image-ne1·by·then-image-ne1 w ↦ grind (arith, tells)
       | then-image-ne1·by·else-image-ne1·then-image-ne0 w ↦ grind (arith, tells)
-      | then-image-ne1·by·else-image-ne1·else-image-ne0·then-used-gt8 w ↦ grind (arith, tells)
+      | then-image-ne1·by·else-image-ne1·else-image-ne0·then-used-gt-MOST-TABLES w ↦ grind (arith, tells)
     ] in
     sym (cond-false (headerGood bs) _ _ no)
 
@@ -54,7 +54,7 @@ returns-then-count-longest c =
       | then-count-longest·by·then-count-longest w ↦
           let many : leb (pairAt bs 4) (longest (kindOf (getD bs 3 0))) ≡ false = lt-leb _ _ (omega arith) in
           grind (arith, tells)
-      | then-count-longest·by·else-count-longest·then-cells-gt4096 w ↦
+      | then-count-longest·by·else-count-longest·then-cells-gt-MOST-CELLS w ↦
           let cells : w .cells .result ≡ cellsOf (tablesAt bs) = w .cells .ensures ∙ ap cellsOf tables in
           let many : leb (cellsOf (tablesAt bs)) 4096 ≡ false = lt-leb _ _ (omega arith) in
           grind (arith, tells)
