@@ -1,0 +1,5 @@
+// Programs and refusals as text for people.
+pub mod heading;
+pub mod line;
+pub mod listing;
+pub mod refused;
