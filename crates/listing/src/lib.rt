@@ -3,3 +3,4 @@ pub mod heading;
 pub mod line;
 pub mod listing;
 pub mod refused;
+pub mod written;
