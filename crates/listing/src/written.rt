@@ -11,7 +11,11 @@ pub struct WrittenBack {
 pub impl fmt::Display for WrittenBack as WrittenBackDisplay {
     fn fmt<W: fmt::Write>(&self, f: &mut fmt::Formatter<W>) -> fmt::Result {
         let length = self.length;
-        let verdict = if self.same { "the same" } else { "not the same" };
+        let verdict = if self.same {
+            "the same"
+        } else {
+            "not the same"
+        };
         write!(f, "written back: {length} bytes, {verdict}")
     }
 }

@@ -1,0 +1,40 @@
+// Runs case files and prints how many of their cases agree.
+use cases::report::Named;
+use cases::report::NamedDisplay;
+use cases::room::Room;
+use cases::runner;
+use std::env;
+use std::error::AnyError;
+use std::fs;
+use std::path::Path;
+use tally::Tally;
+use tally::TallyDisplay;
+
+fn run_file(rt: &LibcRuntime, room: &mut Room, path: &str) -> Result<Tally, AnyError> {
+    let text = fs::read_to_string(rt, path)?;
+    let report = runner::run(rt.alloc(), room, text.as_str())?;
+    let name = Path::new(path).file_stem().unwrap_or(path);
+    rt.print(Named {
+        name,
+        report: &report,
+    })?;
+    Ok(report.tally())
+}
+
+fn run(rt: &LibcRuntime) -> Result<(), AnyError> {
+    let mut room = Room::new(rt.alloc());
+    let mut total = Tally::new();
+    for path in env::args(rt)?.skip(1) {
+        total.add(run_file(rt, &mut room, path.as_str())?);
+    }
+    println!(rt, "total {total}")?;
+    if total.whole() {
+        Ok(())
+    } else {
+        Err("some cases do not agree".into())
+    }
+}
+
+fn main(rt: LibcRuntime) -> Result<(), AnyError> {
+    rt.report(run(&rt))
+}
