@@ -1,6 +1,5 @@
 // Case files: each line a case with the answer that is expected, run and held to it.
-pub mod answer;
 pub mod case;
-pub mod report;
-pub mod room;
+pub mod named;
+pub mod outcome;
 pub mod runner;

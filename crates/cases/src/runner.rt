@@ -1,11 +1,11 @@
 // Runs the cases of a file, each by the way of its kind.
-use crate::answer::Answer;
-use crate::answer::AnswerDisplay;
 use crate::case::Case;
-use crate::report::Report;
-use crate::room::Room;
+use crate::outcome::Outcome;
+use crate::outcome::OutcomeDisplay;
 use std::alloc::AllocError;
 use std::alloc::Global;
+use tally::report::Report;
+use trials::room::Room;
 
 /// Runs all cases of a text, one to a line. Blank lines are no cases.
 pub fn run(heap: Global, room: &mut Room, text: &str) -> Result<Report, AllocError> {
@@ -29,9 +29,9 @@ fn run_case(
     case: Case,
     report: &mut Report,
 ) -> Result<(), AllocError> {
-    let got = answer(room, case)?.to_string(heap)?;
+    let got = outcome(room, case)?.to_string(heap)?;
     if same_but_most(got.as_str(), case.expected) {
-        report.agrees();
+        report.tally.count(true);
         return Ok(());
     }
     let kind = case.kind;
@@ -41,7 +41,7 @@ fn run_case(
 }
 
 // The most steps of a program are not computed yet: here, and nowhere else, they are left out of
-// what an answer is held to.
+// what an outcome is held to.
 fn same_but_most(got: &str, expected: &str) -> bool {
     match expected.split_once(" most=") {
         Some((before, _)) => got == before,
@@ -49,17 +49,29 @@ fn same_but_most(got: &str, expected: &str) -> bool {
     }
 }
 
-fn answer(room: &mut Room, case: Case) -> Result<Answer, AllocError> {
+fn outcome(room: &mut Room, case: Case) -> Result<Outcome, AllocError> {
     match case.kind {
-        "read" => match image_and_cap(room, case)? {
-            Some(cap) => room.read(cap),
-            None => Ok(Answer::Unreadable),
-        },
-        "write" => match image_and_cap(room, case)? {
-            Some(cap) => room.write(cap),
-            None => Ok(Answer::Unreadable),
-        },
-        _ => Ok(Answer::UnknownKind),
+        "read" => read(room, case),
+        "write" => write(room, case),
+        _ => Ok(Outcome::UnknownKind),
+    }
+}
+
+fn read(room: &mut Room, case: Case) -> Result<Outcome, AllocError> {
+    match image_and_cap(room, case)? {
+        Some(cap) => Ok(Outcome::Answered {
+            answer: room.read(cap)?,
+        }),
+        None => Ok(Outcome::Unreadable),
+    }
+}
+
+fn write(room: &mut Room, case: Case) -> Result<Outcome, AllocError> {
+    match image_and_cap(room, case)? {
+        Some(cap) => Ok(Outcome::Answered {
+            answer: room.write(cap)?,
+        }),
+        None => Ok(Outcome::Unreadable),
     }
 }
 

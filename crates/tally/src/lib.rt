@@ -5,6 +5,8 @@ ghost use Prim.Native.Nat.{_+_, _-_, _^_, min};
 ghost use lib.Dec.{eqb};
 use std::fmt;
 
+pub mod report;
+
 /// Both numbers stop at the largest that there is.
 #[derive(Clone, Copy)]
 pub struct Tally {

@@ -1,7 +1,6 @@
 // Runs case files and prints how many of their cases agree.
-use cases::report::Named;
-use cases::report::NamedDisplay;
-use cases::room::Room;
+use cases::named::Named;
+use cases::named::NamedDisplay;
 use cases::runner;
 use std::env;
 use std::error::AnyError;
@@ -9,16 +8,24 @@ use std::fs;
 use std::path::Path;
 use tally::Tally;
 use tally::TallyDisplay;
+use trials::room::Room;
+
+fn text_of(rt: &LibcRuntime, path: &str) -> Result<String, AnyError> {
+    match fs::read_to_string(rt, path) {
+        Ok(text) => Ok(text),
+        Err(_) => Err(format!(rt.alloc(), "{path} cannot be read")?.into()),
+    }
+}
 
 fn run_file(rt: &LibcRuntime, room: &mut Room, path: &str) -> Result<Tally, AnyError> {
-    let text = fs::read_to_string(rt, path)?;
+    let text = text_of(rt, path)?;
     let report = runner::run(rt.alloc(), room, text.as_str())?;
     let name = Path::new(path).file_stem().unwrap_or(path);
     rt.print(Named {
         name,
         report: &report,
     })?;
-    Ok(report.tally())
+    Ok(report.tally)
 }
 
 fn run(rt: &LibcRuntime) -> Result<(), AnyError> {
