@@ -8,16 +8,14 @@ use listing::refused::Refused;
 use listing::refused::RefusedDisplay;
 use listing::written::WrittenBack;
 use listing::written::WrittenBackDisplay;
+use program::header::Kind;
 use program::program::Program;
 use program::refusal::Refusal;
 use std::error::AnyError;
 use std::io::Read;
 
-/// A header of 64 bytes and 3,000 instructions of 8 bytes.
-const LONGEST_IMAGE: u64 = 24064;
-
-/// The most instructions that a program has.
-const LONGEST_PROGRAM: usize = 3000;
+/// A header of 64 bytes, and 3,000 instructions of 8 bytes.
+const LONGEST_IMAGE: u64 = 64 + 8 * 3000;
 
 // One byte more than the longest image is enough to see that an input is too long.
 fn input(rt: &LibcRuntime) -> Result<Vec<u8>, AnyError> {
@@ -55,7 +53,7 @@ fn show_written(rt: &LibcRuntime, program: &Program, image: &[u8]) -> Result<(),
 
 fn main(rt: LibcRuntime) -> Result<(), AnyError> {
     let image = input(&rt)?;
-    let list = vec![in rt.alloc(); Instruction::Again; LONGEST_PROGRAM]?;
+    let list = vec![in rt.alloc(); Instruction::Again; Kind::Converted.longest() as usize]?;
     let program = match reader::read(&image, list) {
         Ok(program) => program,
         Err(back) => return refuse(&rt, back.refusal),

@@ -2,7 +2,11 @@
 ghost use mathlib.Core.Path.{_≡_};
 ghost use mathlib.Core.Bool.{cond};
 ghost use Prim.Native.Nat.{_+_, _-_, _^_, min};
+ghost use mathlib.Core.List.{_++_};
 ghost use lib.Dec.{eqb};
+ghost use lib.Chars.{codes};
+ghost use Rattle.std.specs.Written.{decimal};
+ghost use Rattle.std.specs.declared.option.Option.the-variants.{Some};
 use std::fmt;
 
 pub mod report;
@@ -49,6 +53,8 @@ impl Tally {
 }
 
 pub impl fmt::Display for Tally as TallyDisplay {
+    ghost shown = { λ t. Some (decimal (t .agree) ++ (codes " of " ++ decimal (t .all))) };
+
     fn fmt<W: fmt::Write>(&self, f: &mut fmt::Formatter<W>) -> fmt::Result {
         let agree = self.agree;
         let all = self.all;

@@ -11,7 +11,9 @@ use Rattle.std.specs.declared.result.Result.{Result}
 use Rattle.std.specs.declared.result.Result.the-variants.{Ok, Err}
 use Rattle.program.specs.declared.refusal.Refusal.{Refusal}
 use Rattle.program.specs.declared.refusal.Reason.the-variants.{NoRoomForImage}
+use Rattle.program.specs.declared.header.Kind.the-variants.{Converted}
 use Rattle.program.specs.Refusals.{refusal}
+use Rattle.program.specs.Headers.{longest}
 use Rattle.header.specs.Layout.{headerAt}
 use Rattle.image.specs.Images.{readRefusal}
 use Rattle.trials.specs.declared.answer.Answer.{Answer}
@@ -32,7 +34,7 @@ bytesAnswer long room = cond (ltb room long) (Refused (refusal NoRoomForImage lo
 
 -- of reading an image with room enough, and writing it into a byte list of that length
 abbrev pub writeAnswer : List ℕ → ℕ → Answer
-writeAnswer bs room = unlessRefused (readRefusal bs 3000) (bytesAnswer (length bs) room)
+writeAnswer bs room = unlessRefused (readRefusal bs (longest Converted)) (bytesAnswer (length bs) room)
 
 -- no byte differs from the filler
 abbrev pub untouched : List ℕ → Bool

@@ -17,14 +17,12 @@ use image::handed_back::HandedBack;
 use image::reader;
 use image::writer;
 use instructions::Instruction;
+use program::header::Kind;
 use program::program::Program;
 use program::refusal::Refusal;
 use std::alloc::AllocError;
 use std::alloc::Global;
 use std::mem;
-
-/// The most instructions that a program has.
-const LONGEST_PROGRAM: usize = 3000;
 
 #[derive(Drop)]
 pub struct Room {
@@ -79,7 +77,8 @@ impl Room {
     pub fn write(&mut self, cap: usize) -> Result<Answer, AllocError>
         ensures { λ r. ⌜ made r (λ a. a ≡ writeAnswer (vec-items (now (self .entry) .image)) cap) ⌝ }
     {
-        match try_read(self.heap, &self.image, &mut self.list, LONGEST_PROGRAM)? {
+        let enough = Kind::Converted.longest() as usize;
+        match try_read(self.heap, &self.image, &mut self.list, enough)? {
             Ok(program) => {
                 let answer = try_write(&program, &mut self.out, &self.image, cap);
                 self.list = program.into_list();

@@ -35,6 +35,9 @@ fn run(rt: &LibcRuntime) -> Result<(), AnyError> {
         total.add(run_file(rt, &mut room, path.as_str())?);
     }
     println!(rt, "total {total}")?;
+    if total.all == 0 {
+        return Err("no case was run: name case files".into());
+    }
     if total.whole() {
         Ok(())
     } else {
