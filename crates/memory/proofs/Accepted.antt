@@ -1,0 +1,51 @@
+-- Accesses that are accepted, and those that are not.
+use mathlib.Core.Path.{_≡_, refl, sym, ap, _∙_}
+use mathlib.Core.List.{List}
+use mathlib.Core.Bool.{Bool, true, false}
+use Prim.Native.Nat.{ℕ, _+_, _≤_, _<_}
+use lib.Dec.{ltb, leb}
+use lib.ListN.{length, getD, set}
+use Rattle.std.proofs.shelf.Tests.{lt-ltb, le-leb, lt-leb, and-from}
+use Rattle.std.specs.declared.option.Option.the-variants.{Some, None}
+use Rattle.std.specs.declared.result.Result.the-variants.{Ok, Err}
+use Rattle.program.specs.declared.refusal.Reason.the-variants.{OutsideTable, NoRoomForMarks}
+use Rattle.program.specs.Refusals.{refusal}
+use Rattle.memory.specs.declared.Access.{Access}
+use Rattle.memory.specs.declared.Access.the-variants.{Read, Write}
+use Rattle.memory.specs.Description.{Description, free, marked}
+use Rattle.memory.specs.Accesses.{inside, denial, denied, answered, left, readAnswer, readAfter, writeAnswer, writeAfter}
+use Rattle.memory.specs.Laws.{Within}
+
+module _ (size base len off cost room : ℕ) where
+  pub denial-outside : inside size base len off ≡ false → denial size base len off cost room ≡ Some (refusal OutsideTable 0)
+  unfolding denial
+  denial-outside e = rw e
+
+  pub denial-full : inside size base len off ≡ true → room < cost → denial size base len off cost room ≡ Some (refusal NoRoomForMarks 0)
+  unfolding denial
+  denial-full e h = let f = lt-leb cost room h in rw (e, f)
+
+  pub denial-none : inside size base len off ≡ true → cost ≤ room → denial size base len off cost room ≡ None
+  unfolding denial
+  denial-none e h = let f = le-leb cost room h in rw (e, f)
+
+pub within-inside : {d : Description} {base len off : ℕ} → Within d base len off → inside (length (d .cells)) base len off ≡ true
+within-inside {d} {base} {len} {off} w =
+    and-from (ltb off len) (leb (base + len) (length (d .cells))) (lt-ltb off len (w .below)) (le-leb (base + len) (length (d .cells)) (w .fits))
+
+-- an access within the cells, with room for its marks
+module _ (d : Description) (base len off : ℕ) (w : Within d base len off) where
+  pub accepted : (k : Access) → d .rules .cost k len ≤ free d → denied d k base len off ≡ None
+  accepted k room = denial-none (length (d .cells)) base len off (d .rules .cost k len) (free d) (within-inside w) room
+
+  pub read-answers : d .rules .cost Read len ≤ free d → readAnswer d base len off ≡ Ok (getD (d .cells) (base + off) 0)
+  read-answers room = ap (λ x. answered x (getD (d .cells) (base + off) 0)) (accepted Read room)
+
+  pub read-leaves : d .rules .cost Read len ≤ free d → readAfter d base len off ≡ marked d (d .cells) (d .rules .shows Read base len off)
+  read-leaves room = ap (λ x. left x d (marked d (d .cells) (d .rules .shows Read base len off))) (accepted Read room)
+
+  pub write-answers : d .rules .cost Write len ≤ free d → writeAnswer d base len off ≡ Ok tt
+  write-answers room = ap (λ x. answered x tt) (accepted Write room)
+
+  pub write-leaves : (word : ℕ) → d .rules .cost Write len ≤ free d → writeAfter d base len off word ≡ marked d (set (d .cells) (base + off) word) (d .rules .shows Write base len off)
+  write-leaves word room = ap (λ x. left x d (marked d (set (d .cells) (base + off) word) (d .rules .shows Write base len off))) (accepted Write room)
