@@ -22,7 +22,9 @@ impl Flat {
     /// Of the cells the first 65,536 count. The list for the marks is empty at first: its length, held
     /// at 1,000,000, is the limit.
     pub fn new(cells: Vec<u32>, list: Vec<Mark>) -> Flat
-        ensures { λ r. ⌜ flat (vec-items (r .cells)) (vec-items (r .seen .list)) (r .seen .count) ≡ flat (vec-items cells) (vec-items list) 0 ⌝ }
+        ensures cells { λ r. ⌜ r .cells ≡ cells ⌝ }
+        ensures list { λ r. ⌜ r .seen .list ≡ list ⌝ }
+        ensures empty { λ r. ⌜ r .seen .count ≡ 0 ⌝ }
     {
         Flat { cells, seen: SeenList::new(list) }
     }

@@ -1,8 +1,6 @@
 // What memories with cells of their own share: a list for the marks seen, which is handed in.
 ghost use mathlib.Core.Path.{_≡_};
-ghost use mathlib.Core.Bool.{cond};
-ghost use Prim.Native.Nat.{_+_, _-_, _≤_};
-ghost use lib.Dec.{ltb};
+ghost use Prim.Native.Nat.{_+_, _-_, _<_, _≤_};
 ghost use lib.ListN.{set, take};
 ghost use Rattle.std.specs.Finite.{nth};
 ghost use Rattle.std.specs.Of.Vec.{vec-items};
@@ -56,8 +54,8 @@ impl SeenList {
 
     /// Appends a mark, where there is room.
     pub fn note(&mut self, mark: Mark)
-        ensures list { λ _. ⌜ vec-items (now (self .exit) .list) ≡ cond (ltb (now (self .entry) .count) (limitOf (vec-items (now (self .entry) .list)))) (set (vec-items (now (self .entry) .list)) (now (self .entry) .count) mark) (vec-items (now (self .entry) .list)) ⌝ }
-        ensures count { λ _. ⌜ now (self .exit) .count ≡ cond (ltb (now (self .entry) .count) (limitOf (vec-items (now (self .entry) .list)))) (now (self .entry) .count + 1) (now (self .entry) .count) ⌝ }
+        ensures noted { λ _. ⌜ (now (self .entry) .count < limitOf (vec-items (now (self .entry) .list)) → (vec-items (now (self .exit) .list) ≡ set (vec-items (now (self .entry) .list)) (now (self .entry) .count) mark) × (now (self .exit) .count ≡ now (self .entry) .count + 1)) ⌝ }
+        ensures full { λ _. ⌜ (limitOf (vec-items (now (self .entry) .list)) ≤ now (self .entry) .count → (now (self .exit) .list ≡ now (self .entry) .list) × (now (self .exit) .count ≡ now (self .entry) .count)) ⌝ }
     {
         if self.free() > 0 {
             self.list[self.count] = mark;

@@ -6,8 +6,10 @@ use Prim.Native.Nat.{ℕ, _+_, _≤_, _<_}
 use lib.Dec.{ltb, leb}
 use lib.ListN.{length, getD, set}
 use Rattle.std.proofs.shelf.Tests.{lt-ltb, le-leb, lt-leb, and-from}
+use Rattle.std.specs.declared.option.Option.{Option}
 use Rattle.std.specs.declared.option.Option.the-variants.{Some, None}
 use Rattle.std.specs.declared.result.Result.the-variants.{Ok, Err}
+use Rattle.program.specs.declared.refusal.Refusal.{Refusal}
 use Rattle.program.specs.declared.refusal.Reason.the-variants.{OutsideTable, NoRoomForMarks}
 use Rattle.program.specs.Refusals.{refusal}
 use Rattle.memory.specs.declared.Access.{Access}
@@ -28,6 +30,16 @@ module _ (size base len off cost room : ℕ) where
   pub denial-none : inside size base len off ≡ true → cost ≤ room → denial size base len off cost room ≡ None
   unfolding denial
   denial-none e h = let f = le-leb cost room h in rw (e, f)
+
+-- what code finds out of a memory by size, cost and free
+pub not-denied : (d : Description) (k : Access) (base len off : ℕ) {size cost room : ℕ} {found : Option Refusal} → size ≡ length (d .cells) → cost ≡ d .rules .cost k len → room ≡ free d
+  → found ≡ denial size base len off cost room → found ≡ None → denied d k base len off ≡ None
+not-denied d k base len off {size} {cost} {room} s p f e n =
+    ap (λ x. denial x base len off (d .rules .cost k len) (free d)) (sym s)
+    ∙ ap (λ x. denial size base len off x (free d)) (sym p)
+    ∙ ap (denial size base len off cost) (sym f)
+    ∙ sym e
+    ∙ n
 
 pub within-inside : {d : Description} {base len off : ℕ} → Within d base len off → inside (length (d .cells)) base len off ≡ true
 within-inside {d} {base} {len} {off} w =
