@@ -3,15 +3,16 @@ use mathlib.Core.Path.{_≡_, refl, sym, ap, _∙_}
 use mathlib.Core.List.{List}
 use mathlib.Core.Bool.{Bool, true, false}
 use Prim.Native.Nat.{ℕ, _+_, _≤_, _<_}
+use native.Mathlib.Omega.{arith}
 use lib.Dec.{ltb, leb}
 use lib.ListN.{length, getD, set}
-use Rattle.std.proofs.shelf.Tests.{lt-ltb, le-leb, lt-leb, and-from}
+use Rattle.std.proofs.shelf.Tests.{lt-ltb, le-leb, lt-leb, ltb-true, leb-true, and-from, and-parts}
 use Rattle.std.specs.declared.option.Option.{Option}
 use Rattle.std.specs.declared.option.Option.the-variants.{Some, None}
 use Rattle.std.specs.declared.result.Result.the-variants.{Ok, Err}
 use Rattle.program.specs.declared.refusal.Refusal.{Refusal}
 use Rattle.program.specs.declared.refusal.Reason.the-variants.{OutsideTable, NoRoomForMarks}
-use Rattle.program.specs.Refusals.{refusal}
+use Rattle.program.specs.Refusals.{refusal, unless, orElse}
 use Rattle.memory.specs.declared.Access.{Access}
 use Rattle.memory.specs.declared.Access.the-variants.{Read, Write}
 use Rattle.memory.specs.Description.{Description, free, marked}
@@ -30,6 +31,19 @@ module _ (size base len off cost room : ℕ) where
   pub denial-none : inside size base len off ≡ true → cost ≤ room → denial size base len off cost room ≡ None
   unfolding denial
   denial-none e h = let f = le-leb cost room h in rw (e, f)
+
+tests-pass : (x y : Bool) → orElse (unless x OutsideTable 0) (unless y NoRoomForMarks 0) ≡ None → (x ≡ true) × (y ≡ true)
+tests-pass true true e = (refl, refl)
+tests-pass true false e = absurd (let z : _≡_ {A = ℕ} 0 1 = cc in omega arith)
+tests-pass false y e = absurd (let z : _≡_ {A = ℕ} 0 1 = cc in omega arith)
+
+-- what is known of an access that is not denied
+pub accepted-within : (d : Description) (k : Access) (base len off : ℕ) → denied d k base len off ≡ None → Within d base len off × (d .rules .cost k len ≤ free d)
+unfolding denial
+accepted-within d k base len off e =
+    let p = tests-pass (inside (length (d .cells)) base len off) (leb (d .rules .cost k len) (free d)) e in
+    let q = and-parts (ltb off len) (leb (base + len) (length (d .cells))) (p .0) in
+    (record { below = ltb-true off len (q .0); fits = leb-true (base + len) (length (d .cells)) (q .1) }, leb-true (d .rules .cost k len) (free d) (p .1))
 
 -- what code finds out of a memory by size, cost and free
 pub not-denied : (d : Description) (k : Access) (base len off : ℕ) {size cost room : ℕ} {found : Option Refusal} → size ≡ length (d .cells) → cost ≡ d .rules .cost k len → room ≡ free d

@@ -1,0 +1,69 @@
+// What some piles show and refuse.
+use crate::stacks::banked_line_scan;
+use crate::stacks::flat_scan_line;
+use banked::BankedMemory;
+use flat::Flat;
+use flat::FlatMemory;
+use full_scan::FullScan;
+use full_scan::FullScanMemory;
+use line::LineMemory;
+use memory::Mark;
+use memory::Memory;
+use std::test::*;
+
+// Whether these are the marks seen.
+fn saw<M: Memory>(memory: &M, marks: &[Mark]) -> bool {
+    for (j, mark) in marks.iter().enumerate() {
+        if memory.mark(j) != Some(*mark) {
+            return false;
+        }
+    }
+    memory.marks() == marks.len() && memory.mark(marks.len()) == None
+}
+
+// The number of a refusal, or 0.
+fn refused<M: Memory>(memory: &mut M, base: usize, len: usize, off: usize) -> u8 {
+    match memory.read(base, len, off) {
+        Ok(_) => 0,
+        Err(why) => why.number(),
+    }
+}
+
+#[test]
+fn a_scan_shows_every_offset(rt: LibcRuntime) -> Result<(), Fail> {
+    let cells = [5, 6, 7, 8].to_vec(rt.alloc())?;
+    let list = [0; 12].to_vec(rt.alloc())?;
+    let mut memory = FullScan::new(Flat::new(cells, list));
+    check_eq(memory.read(0, 4, 3)?, 8)?;
+    check(saw(&memory, &[0, 1, 2, 3]))?;
+    memory.write(0, 4, 3, 9)?;
+    check(saw(&memory, &[0, 1, 2, 3, 0, 0, 1, 1, 2, 2, 3, 3]))?;
+    check_eq(refused(&mut memory, 0, 1, 0), 31)?;
+    let (cells, _list) = memory.into_below().into_parts();
+    check(cells.as_slice() == &[5, 6, 7, 9])
+}
+
+#[test]
+fn a_line_on_top_divides(rt: LibcRuntime) -> Result<(), Fail> {
+    let cells = [5, 6, 7, 8].to_vec(rt.alloc())?;
+    let list = [0; 9].to_vec(rt.alloc())?;
+    let mut memory = flat_scan_line(cells, list, 1);
+    check_eq(memory.read(0, 4, 2)?, 7)?;
+    check(saw(&memory, &[0, 0, 1, 1]))?;
+    check_eq(refused(&mut memory, 0, 4, 4), 30)?;
+    check_eq(refused(&mut memory, 0, 0, 0), 30)?;
+    check_eq(refused(&mut memory, usize::MAX, 4, 0), 30)?;
+    memory.clear();
+    check(saw(&memory, &[]) && memory.free() == 9)
+}
+
+#[test]
+fn a_scan_over_rows_hides(rt: LibcRuntime) -> Result<(), Fail> {
+    let list = [0; 40].to_vec(rt.alloc())?;
+    let mut memory = banked_line_scan(list, 0);
+    memory.write(6, 2, 1, 77)?;
+    check_eq(memory.read(6, 2, 1)?, 77)?;
+    check_eq(memory.read(6, 2, 0)?, 0)?;
+    check(saw(&memory, &[1, 1, 1, 1, 1, 1, 1, 1]))?;
+    check(memory.hides() && memory.size() == 1024 && memory.free() == 32)
+}
