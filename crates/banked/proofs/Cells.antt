@@ -1,13 +1,13 @@
 -- The cells of four banks, as one list.
 use mathlib.Core.Path.{_≡_, refl, sym, ap, _∙_}
-use mathlib.Core.List.{List, [], _∷_, map}
+use mathlib.Core.List.{List, [], map}
 use mathlib.Core.Logic.{_≢_, ⊎-elim}
-use Prim.Native.Nat.{ℕ, zero, suc, _+_, _*_, _/_, _%_, _<_, _≤_}
+use Prim.Native.Nat.{ℕ, zero, suc, _+_, _*_, _/_, _%_, _<_}
 use native.Mathlib.Omega.{arith}
 use lib.ListN.{length, getD, set, replicate}
 use Rattle.std.specs.Iters.{counting}
 use Rattle.std.proofs.shelf.Counted.{length-map-counting, getD-map-counting}
-use Rattle.std.proofs.shelf.Lists.{ext-getD, length-set, length-replicate, getD-replicate, getD-set-same, getD-set-other}
+use Rattle.std.proofs.shelf.Lists.{ext-getD, length-set, length-replicate, getD-set-same, getD-set-other}
 use Rattle.std.proofs.shelf.Tests.{cases-eq}
 use Rattle.std.proofs.shelf.Bits.{div-below, mod-below, div-add-mod'}
 use Rattle.banked.specs.Banks.{wordAt, cellsOf}
@@ -41,12 +41,12 @@ module _ (banks : List (List ℕ)) (four : length banks ≡ 4) (long : (b : ℕ)
       let m = mod-below c 4 (omega arith) in
       ⊎-elim
       (λ e. let p = div-add-mod' k 4 in
-            let q = div-add-mod' c 4 in
-            let other : k / 4 ≢ c / 4 = λ same. ne (sym p ∙ ap (λ x. x * 4 + k % 4) same ∙ ap (λ x. c / 4 * 4 + x) e ∙ q) in
-            ap (λ b. getD (getD (put banks c word) b []) (k / 4) 0) e
-            ∙ ap (λ xs. getD xs (k / 4) 0) (getD-set-same banks (c % 4) (set (getD banks (c % 4) []) (c / 4) word) [] (omega arith))
-            ∙ getD-set-other (getD banks (c % 4) []) (c / 4) (k / 4) word 0 other
-            ∙ ap (λ b. getD (getD banks b []) (k / 4) 0) (sym e))
+      let q = div-add-mod' c 4 in
+      let other : k / 4 ≢ c / 4 = λ same. ne (sym p ∙ ap (λ x. x * 4 + k % 4) same ∙ ap (λ x. c / 4 * 4 + x) e ∙ q) in
+      ap (λ b. getD (getD (put banks c word) b []) (k / 4) 0) e
+      ∙ ap (λ xs. getD xs (k / 4) 0) (getD-set-same banks (c % 4) (set (getD banks (c % 4) []) (c / 4) word) [] (omega arith))
+      ∙ getD-set-other (getD banks (c % 4) []) (c / 4) (k / 4) word 0 other
+      ∙ ap (λ b. getD (getD banks b []) (k / 4) 0) (sym e))
       (λ n. ap (λ xs. getD xs (k / 4) 0) (getD-set-other banks (c % 4) (k % 4) (set (getD banks (c % 4) []) (c / 4) word) [] n))
       (cases-eq (k % 4) (c % 4))
 
@@ -56,9 +56,9 @@ module _ (banks : List (List ℕ)) (four : length banks ≡ 4) (long : (b : ℕ)
       let o = length-cellsOf banks in
       ext-getD 0 _ _ (l ∙ sym o ∙ sym (length-set (cellsOf banks) c word))
       (λ k lt. getD-cellsOf (put banks c word) k (omega arith)
-        ∙ ⊎-elim (λ e. ap (wordAt (put banks c word)) e ∙ here ∙ sym (ap (λ i. getD (set (cellsOf banks) c word) i 0) e ∙ getD-set-same (cellsOf banks) c word 0 (omega arith)))
-                 (λ n. elsewhere k n ∙ sym (getD-set-other (cellsOf banks) c k word 0 n ∙ getD-cellsOf banks k (omega arith)))
-                 (cases-eq k c))
+      ∙ ⊎-elim (λ e. ap (wordAt (put banks c word)) e ∙ here ∙ sym (ap (λ i. getD (set (cellsOf banks) c word) i 0) e ∙ getD-set-same (cellsOf banks) c word 0 (omega arith)))
+      (λ n. elsewhere k n ∙ sym (getD-set-other (cellsOf banks) c k word 0 n ∙ getD-cellsOf banks k (omega arith)))
+      (cases-eq k c))
 
 zeros : (n i : ℕ) → _≡_ {A = ℕ} (getD (replicate n 0) i 0) 0
 zeros zero i = refl

@@ -29,7 +29,10 @@ impl Banked {
         ensures list { λ r. ⌜ r .seen .list ≡ list ⌝ }
         ensures empty { λ r. ⌜ r .seen .count ≡ 0 ⌝ }
     {
-        Banked { banks: [[0; 256]; 4], seen: SeenList::new(list) }
+        Banked {
+            banks: [[0; 256]; 4],
+            seen: SeenList::new(list),
+        }
     }
 
     /// Gives the list back, with the marks in front.
@@ -80,7 +83,7 @@ pub impl Memory for Banked as BankedMemory {
     }
 
     fn marks(&self) -> usize {
-        self.seen.marks()
+        self.seen.marks().len()
     }
 
     fn mark(&self, j: usize) -> Option<Mark> {

@@ -26,11 +26,13 @@ impl Flat {
         ensures list { λ r. ⌜ r .seen .list ≡ list ⌝ }
         ensures empty { λ r. ⌜ r .seen .count ≡ 0 ⌝ }
     {
-        Flat { cells, seen: SeenList::new(list) }
+        Flat {
+            cells,
+            seen: SeenList::new(list),
+        }
     }
 
-    /// Gives back the cells, with those that do not count as they were, and the list, with the marks
-    /// in front.
+    /// Gives back the cells, and the list with the marks in front.
     pub fn into_parts(self) -> (Vec<u32>, Vec<Mark>)
         ensures cells { λ r. ⌜ r .0 ≡ self .cells ⌝ }
         ensures list { λ r. ⌜ r .1 ≡ self .seen .list ⌝ }
@@ -79,7 +81,7 @@ pub impl Memory for Flat as FlatMemory {
     }
 
     fn marks(&self) -> usize {
-        self.seen.marks()
+        self.seen.marks().len()
     }
 
     fn mark(&self, j: usize) -> Option<Mark> {

@@ -28,10 +28,10 @@ pub rewritten-next : (cells : List ℕ) (base off word n new : ℕ) → new ≡ 
 rewritten-next cells base off word n new e =
     ⊎-elim
     (λ s. let a = le-ltb off n (omega arith) in
-          let b = lt-ltb off (n + 1) (omega arith) in
-          let w : new ≡ word = e ∙ cond-true _ word _ (eq-eqb n off s) in
-          rw (a, b, w, s))
+    let b = lt-ltb off (n + 1) (omega arith) in
+    let w : new ≡ word = e ∙ cond-true _ word _ (eq-eqb n off s) in
+    rw (a, b, w, s))
     (λ s. let w : new ≡ getD (rewritten cells base off word n) (base + n) 0 = e ∙ cond-false _ word _ (ne-eqb n off s) in
-          let same : ltb off n ≡ ltb off (n + 1) = ⊎-elim (λ l. lt-ltb off n l ∙ sym (lt-ltb off (n + 1) (omega arith))) (λ l. le-ltb off n l ∙ sym (le-ltb off (n + 1) (omega arith))) (cases-lt off n) in
-          ap (set (rewritten cells base off word n) (base + n)) w ∙ set-getD (rewritten cells base off word n) (base + n) 0 ∙ ap (λ b. cond b (set cells (base + off) word) cells) same)
+    let same : ltb off n ≡ ltb off (n + 1) = ⊎-elim (λ l. lt-ltb off n l ∙ sym (lt-ltb off (n + 1) (omega arith))) (λ l. le-ltb off n l ∙ sym (le-ltb off (n + 1) (omega arith))) (cases-lt off n) in
+    ap (set (rewritten cells base off word n) (base + n)) w ∙ set-getD (rewritten cells base off word n) (base + n) 0 ∙ ap (λ b. cond b (set cells (base + off) word) cells) same)
     (cases-eq n off)

@@ -32,14 +32,14 @@ module _ (d : Description) (base len off : ℕ) (cells : List ℕ) (xs : List Ma
   within = record { below = h; fits = fits }
 
   then-read : d .rules .cost Read len + length xs ≤ free d
-    → (readAnswer (marked d cells xs) base len off ≡ Ok (getD cells (base + off) 0)) × (readAfter (marked d cells xs) base len off ≡ marked d cells (xs ++ d .rules .shows Read base len off))
+      → (readAnswer (marked d cells xs) base len off ≡ Ok (getD cells (base + off) 0)) × (readAfter (marked d cells xs) base len off ≡ marked d cells (xs ++ d .rules .shows Read base len off))
   then-read room =
       let l = length-append (d .seen) xs in
       let r : d .rules .cost Read len ≤ free (marked d cells xs) = omega arith in
       (read-answers (marked d cells xs) base len off within r, read-leaves (marked d cells xs) base len off within r ∙ marked-twice d cells cells xs _)
 
   then-write : (word : ℕ) → d .rules .cost Write len + length xs ≤ free d
-    → (writeAnswer (marked d cells xs) base len off ≡ Ok tt) × (writeAfter (marked d cells xs) base len off word ≡ marked d (set cells (base + off) word) (xs ++ d .rules .shows Write base len off))
+      → (writeAnswer (marked d cells xs) base len off ≡ Ok tt) × (writeAfter (marked d cells xs) base len off word ≡ marked d (set cells (base + off) word) (xs ++ d .rules .shows Write base len off))
   then-write word room =
       let l = length-append (d .seen) xs in
       let r : d .rules .cost Write len ≤ free (marked d cells xs) = omega arith in
@@ -47,18 +47,19 @@ module _ (d : Description) (base len off : ℕ) (cells : List ℕ) (xs : List Ma
 
 -- the turn of a read at offset n, from the memory m as it then is
 pub read-turn : (d : Description) → Lawful d → (base len n : ℕ) → n < len → base + len ≤ length (d .cells) → len * turnCost (d .rules .cost) Read len ≤ free d
-  → (m : Description) → m ≡ marked d (d .cells) (turns (d .rules .shows) Read base len n)
-  → (readAnswer m base len n ≡ Ok (getD (d .cells) (base + n) 0)) × (readAfter m base len n ≡ marked d (d .cells) (turns (d .rules .shows) Read base len (n + 1)))
+    → (m : Description) → m ≡ marked d (d .cells) (turns (d .rules .shows) Read base len n)
+    → (readAnswer m base len n ≡ Ok (getD (d .cells) (base + n) 0)) × (readAfter m base len n ≡ marked d (d .cells) (turns (d .rules .shows) Read base len (n + 1)))
 read-turn d laws base len n h fits room m e =
-    let p = then-read d base len n (d .cells) (turns (d .rules .shows) Read base len n) h fits (turn-room d laws base len fits Read n h room) in
-    (ap (λ x. readAnswer x base len n) e ∙ p .0,
-     ap (λ x. readAfter x base len n) e ∙ p .1 ∙ ap (λ i. marked d (d .cells) (turns (d .rules .shows) Read base len i)) (sym (add-one n)))
+    let p = then-read d base len n (d .cells) (turns (d .rules .shows) Read base len n) h fits (turn-room d laws base len fits Read n h room) in (
+      ap (λ x. readAnswer x base len n) e ∙ p .0,
+      ap (λ x. readAfter x base len n) e ∙ p .1 ∙ ap (λ i. marked d (d .cells) (turns (d .rules .shows) Read base len i)) (sym (add-one n)),
+    )
 
 -- the turn of a write at offset n
 module _ (d : Description) (laws : Lawful d) (base len n : ℕ) (h : n < len) (fits : base + len ≤ length (d .cells)) (off word : ℕ) (room : len * turnCost (d .rules .cost) Write len ≤ free d) where
   -- its read
   pub write-turn-read : (m : Description) → m ≡ marked d (rewritten (d .cells) base off word n) (turns (d .rules .shows) Write base len n)
-    → (readAnswer m base len n ≡ Ok (getD (rewritten (d .cells) base off word n) (base + n) 0)) × (readAfter m base len n ≡ marked d (rewritten (d .cells) base off word n) (turns (d .rules .shows) Write base len n ++ d .rules .shows Read base len n))
+      → (readAnswer m base len n ≡ Ok (getD (rewritten (d .cells) base off word n) (base + n) 0)) × (readAfter m base len n ≡ marked d (rewritten (d .cells) base off word n) (turns (d .rules .shows) Write base len n ++ d .rules .shows Read base len n))
   write-turn-read m e =
       let q = turn-room d laws base len fits Write n h room in
       let l = length-rewritten (d .cells) base off word n in
@@ -67,8 +68,8 @@ module _ (d : Description) (laws : Lawful d) (base len n : ℕ) (h : n < len) (f
 
   -- and its write
   pub write-turn : (m : Description) (new : ℕ) → m ≡ marked d (rewritten (d .cells) base off word n) (turns (d .rules .shows) Write base len n ++ d .rules .shows Read base len n)
-    → new ≡ cond (eqb n off) word (getD (rewritten (d .cells) base off word n) (base + n) 0)
-    → (writeAnswer m base len n ≡ Ok tt) × (writeAfter m base len n new ≡ marked d (rewritten (d .cells) base off word (n + 1)) (turns (d .rules .shows) Write base len (n + 1)))
+      → new ≡ cond (eqb n off) word (getD (rewritten (d .cells) base off word n) (base + n) 0)
+      → (writeAnswer m base len n ≡ Ok tt) × (writeAfter m base len n new ≡ marked d (rewritten (d .cells) base off word (n + 1)) (turns (d .rules .shows) Write base len (n + 1)))
   write-turn m new e w =
       let q = turn-room d laws base len fits Write n h room in
       let l = length-rewritten (d .cells) base off word n in
@@ -77,8 +78,9 @@ module _ (d : Description) (laws : Lawful d) (base len n : ℕ) (h : n < len) (f
       let lr = length-append xs r in
       let pr = laws .priced Read base len n (record { below = h; fits = fits }) in
       let lim = laws .limited in
-      let p = then-write d base len n (rewritten (d .cells) base off word n) (xs ++ r) h (omega arith) new (omega arith) in
-      (ap (λ x. writeAnswer x base len n) e ∙ p .0,
-       ap (λ x. writeAfter x base len n new) e ∙ p .1
-       ∙ ap (λ cs. marked d cs ((xs ++ r) ++ d .rules .shows Write base len n)) (rewritten-next (d .cells) base off word n new w)
-       ∙ ap (marked d (rewritten (d .cells) base off word (n + 1))) (append-assoc xs r (d .rules .shows Write base len n) ∙ ap (turns (d .rules .shows) Write base len) (sym (add-one n))))
+      let p = then-write d base len n (rewritten (d .cells) base off word n) (xs ++ r) h (omega arith) new (omega arith) in (
+        ap (λ x. writeAnswer x base len n) e ∙ p .0,
+        ap (λ x. writeAfter x base len n new) e ∙ p .1
+            ∙ ap (λ cs. marked d cs ((xs ++ r) ++ d .rules .shows Write base len n)) (rewritten-next (d .cells) base off word n new w)
+            ∙ ap (marked d (rewritten (d .cells) base off word (n + 1))) (append-assoc xs r (d .rules .shows Write base len n) ∙ ap (turns (d .rules .shows) Write base len) (sym (add-one n))),
+      )

@@ -34,7 +34,7 @@ impl<M: Memory> FullScan<M> {
     }
 }
 
-// One of two words, with no early end of a turn.
+// The new word here, and the old one elsewhere.
 fn chosen(here: bool, new: u32, old: u32) -> u32
     ensures { λ r. ⌜ r ≡ cond here new old ⌝ }
 {
@@ -64,7 +64,9 @@ fn write_all<M: Memory>(below: &mut M, base: usize, len: usize, off: usize, word
 {
     for at in 0..len {
         let old = below.read(base, len, at).unwrap();
-        below.write(base, len, at, chosen(at == off, word, old)).unwrap();
+        below
+            .write(base, len, at, chosen(at == off, word, old))
+            .unwrap();
     }
 }
 
@@ -72,14 +74,16 @@ pub impl<M: Memory> Memory for FullScan<M> as FullScanMemory {
     ghost model = { λ m. scanOver (M·Memory .model (m .below)) };
 
     fn read(&mut self, base: usize, len: usize, off: usize) -> Result<u32, Refusal> {
-        if let Some(why) = denial(self.size(), base, len, off, self.cost(Access::Read, len), self.free()) {
+        let cost = self.cost(Access::Read, len);
+        if let Some(why) = denial(self.size(), base, len, off, cost, self.free()) {
             return Err(why);
         }
         Ok(read_all(&mut self.below, base, len, off))
     }
 
     fn write(&mut self, base: usize, len: usize, off: usize, word: u32) -> Result<(), Refusal> {
-        if let Some(why) = denial(self.size(), base, len, off, self.cost(Access::Write, len), self.free()) {
+        let cost = self.cost(Access::Write, len);
+        if let Some(why) = denial(self.size(), base, len, off, cost, self.free()) {
             return Err(why);
         }
         write_all(&mut self.below, base, len, off, word);

@@ -26,23 +26,25 @@ module _ (mark : ℕ → Mark) (cells : List ℕ) (list : List Mark) (count : �
 
   -- a read that is not denied, and what the list then holds
   pub leaf-read : (base len off : ℕ) {word : ℕ} {then : List Mark} {more : ℕ} → denied (leaf mark cells list count) Read base len off ≡ None → count < limitOf list
-    → (then ≡ set list count (mark (base + off))) × (more ≡ count + 1) → word ≡ getD cells (base + off) 0
-    → (Ok word ≡ readAnswer (leaf mark cells list count) base len off) × (leaf mark cells then more ≡ readAfter (leaf mark cells list count) base len off)
+      → (then ≡ set list count (mark (base + off))) × (more ≡ count + 1) → word ≡ getD cells (base + off) 0
+      → (Ok word ≡ readAnswer (leaf mark cells list count) base len off) × (leaf mark cells then more ≡ readAfter (leaf mark cells list count) base len off)
   leaf-read base len off {word} {then} {more} fine room p w =
       let d = leaf mark cells list count in
-      let m = mark (base + off) in
-      (ap Ok w ∙ sym (ap (λ x. answered x (getD cells (base + off) 0)) fine),
-       ap₂ (leaf mark cells) (p .0) (p .1) ∙ noted mark cells cells list count m room ∙ sym (ap (λ x. left x d (marked d cells (m ∷ []))) fine))
+      let m = mark (base + off) in (
+        ap Ok w ∙ sym (ap (λ x. answered x (getD cells (base + off) 0)) fine),
+        ap₂ (leaf mark cells) (p .0) (p .1) ∙ noted mark cells cells list count m room ∙ sym (ap (λ x. left x d (marked d cells (m ∷ []))) fine),
+      )
 
   -- a write that is not denied
   pub leaf-write : (base len off word : ℕ) {then : List Mark} {more : ℕ} {new : List ℕ} → denied (leaf mark cells list count) Write base len off ≡ None → count < limitOf list
-    → (then ≡ set list count (mark (base + off))) × (more ≡ count + 1) → new ≡ set cells (base + off) word
-    → (Ok tt ≡ writeAnswer (leaf mark cells list count) base len off) × (leaf mark new then more ≡ writeAfter (leaf mark cells list count) base len off word)
+      → (then ≡ set list count (mark (base + off))) × (more ≡ count + 1) → new ≡ set cells (base + off) word
+      → (Ok tt ≡ writeAnswer (leaf mark cells list count) base len off) × (leaf mark new then more ≡ writeAfter (leaf mark cells list count) base len off word)
   leaf-write base len off word {then} {more} {new} fine room p w =
       let d = leaf mark cells list count in
-      let m = mark (base + off) in
-      (sym (ap (λ x. answered x tt) fine),
-       ap₂ (leaf mark new) (p .0) (p .1)
-       ∙ noted mark new cells list count m room
-       ∙ ap (λ cs. marked d cs (m ∷ [])) w
-       ∙ sym (ap (λ x. left x d (marked d (set cells (base + off) word) (m ∷ []))) fine))
+      let m = mark (base + off) in (
+        sym (ap (λ x. answered x tt) fine),
+        ap₂ (leaf mark new) (p .0) (p .1)
+            ∙ noted mark new cells list count m room
+            ∙ ap (λ cs. marked d cs (m ∷ [])) w
+            ∙ sym (ap (λ x. left x d (marked d (set cells (base + off) word) (m ∷ []))) fine),
+      )

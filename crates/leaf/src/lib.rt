@@ -10,7 +10,7 @@ use memory::Mark;
 /// The most marks that any list holds.
 const MOST: usize = 1_000_000;
 
-/// A list whose first `count` entries are the marks seen; the entries behind them stay as they were.
+/// A list whose first `count` entries are the marks seen.
 #[derive(Drop)]
 pub struct SeenList {
     list: Vec<Mark>,
@@ -34,11 +34,11 @@ impl SeenList {
         self.list.len().min(MOST) - self.count
     }
 
-    /// The number of marks seen.
-    pub fn marks(&self) -> usize
-        ensures { λ r. ⌜ r ≡ now (self .entry) .count ⌝ }
+    /// The marks seen.
+    pub fn marks(&self) -> &[Mark]
+        ensures { λ r. ⌜ now r ≡ take (now (self .entry) .count) (vec-items (now (self .entry) .list)) ⌝ }
     {
-        self.count
+        &self.list[0..self.count]
     }
 
     /// Mark `j`, where there is one.

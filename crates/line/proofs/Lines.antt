@@ -38,7 +38,7 @@ module _ (e : ℕ) (d : Description) where
 
   -- what an access through the layer leaves
   pub line-after : (k : Access) (base len off : ℕ) (cells : List ℕ)
-    → lineOver e (left (denied d k base len off) d (marked d cells (d .rules .shows k base len off)))
+      → lineOver e (left (denied d k base len off) d (marked d cells (d .rules .shows k base len off)))
       ≡ left (denied (lineOver e d) k base len off) (lineOver e d) (marked (lineOver e d) cells (lineOver e d .rules .shows k base len off))
   line-after k base len off cells =
       line-left (denied d k base len off) cells (d .rules .shows k base len off)

@@ -21,7 +21,10 @@ impl<M: Memory> Line<M> {
         ensures below { λ r. ⌜ r .below ≡ below ⌝ }
         ensures exponent { λ r. ⌜ r .exponent ≡ min exponent 6 ⌝ }
     {
-        Line { below, exponent: exponent.min(6) }
+        Line {
+            below,
+            exponent: exponent.min(6),
+        }
     }
 
     /// Gives back the memory below.

@@ -47,7 +47,7 @@ accepted-within d k base len off e =
 
 -- what code finds out of a memory by size, cost and free
 pub not-denied : (d : Description) (k : Access) (base len off : ℕ) {size cost room : ℕ} {found : Option Refusal} → size ≡ length (d .cells) → cost ≡ d .rules .cost k len → room ≡ free d
-  → found ≡ denial size base len off cost room → found ≡ None → denied d k base len off ≡ None
+    → found ≡ denial size base len off cost room → found ≡ None → denied d k base len off ≡ None
 not-denied d k base len off {size} {cost} {room} s p f e n =
     ap (λ x. denial x base len off (d .rules .cost k len) (free d)) (sym s)
     ∙ ap (λ x. denial size base len off x (free d)) (sym p)

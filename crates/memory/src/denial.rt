@@ -17,15 +17,28 @@ fn within(size: usize, base: usize, len: usize, off: usize) -> bool
 
 /// Why an access to `off` in the table of `len` cells from `base` on is denied, if it is: it goes
 /// outside, or there is no room for the marks that it costs.
-pub fn denial(size: usize, base: usize, len: usize, off: usize, cost: usize, free: usize) -> Option<Refusal>
+pub fn denial(
+    size: usize,
+    base: usize,
+    len: usize,
+    off: usize,
+    cost: usize,
+    free: usize,
+) -> Option<Refusal>
     ensures value { λ r. ⌜ r ≡ denial size base len off cost free ⌝ }
     ensures bounds { λ r. ⌜ (isSome r ≡ false → (off < len) × (base + len ≤ size) × (cost ≤ free)) ⌝ }
 {
     if !within(size, base, len, off) {
-        return Some(Refusal { reason: Reason::OutsideTable, place: 0 });
+        return Some(Refusal {
+            reason: Reason::OutsideTable,
+            place: 0,
+        });
     }
     if cost > free {
-        return Some(Refusal { reason: Reason::NoRoomForMarks, place: 0 });
+        return Some(Refusal {
+            reason: Reason::NoRoomForMarks,
+            place: 0,
+        });
     }
     None
 }

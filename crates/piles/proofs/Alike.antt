@@ -21,7 +21,7 @@ use Rattle.memory.proofs.Accepted.{accepted-within}
 use Rattle.piles.specs.Pairs.{SameButCells}
 
 both-left : {a b : Description} → SameButCells a b → (x y : Option Refusal) → x ≡ y → (cells others : List ℕ) (xs ys : List Mark) → length cells ≡ length others → (x ≡ None → xs ≡ ys)
-  → SameButCells (left x a (marked a cells xs)) (left y b (marked b others ys))
+    → SameButCells (left x a (marked a cells xs)) (left y b (marked b others ys))
 both-left s None None e cells others xs ys l shown = record { size = l; seen = ap₂ (λ m n. m ++ n) (s .seen) (shown refl); rules = s .rules }
 both-left s None (Some f) e cells others xs ys l shown = absurd (let z : _≡_ {A = ℕ} 0 1 = cc in omega arith)
 both-left s (Some f) None e cells others xs ys l shown = absurd (let z : _≡_ {A = ℕ} 0 1 = cc in omega arith)
@@ -53,7 +53,7 @@ alike-hidden d laws k base len i j hides p q = record {
 
 -- an access of each
 both : {a b : Description} → SameButCells a b → (k : Access) (base len i j : ℕ) → Alike a k base len i j → (cells others : List ℕ) → length cells ≡ length others
-  → SameButCells (left (denied a k base len i) a (marked a cells (a .rules .shows k base len i))) (left (denied b k base len j) b (marked b others (b .rules .shows k base len j)))
+    → SameButCells (left (denied a k base len i) a (marked a cells (a .rules .shows k base len i))) (left (denied b k base len j) b (marked b others (b .rules .shows k base len j)))
 both {a} {b} s k base len i j alike cells others l =
     both-left s (denied a k base len i) (denied b k base len j) (both-denied s k base len i j (alike .inside)) cells others _ _ l
     (λ n. alike .shown n ∙ ap (λ r. r .shows k base len j) (s .rules))

@@ -2,6 +2,5 @@
 pub mod pairs;
 pub mod settings;
 pub mod stacks;
-
 #[cfg(test)]
 mod tests;

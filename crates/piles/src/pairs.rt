@@ -19,7 +19,16 @@ pub fn read_both<M: Memory>(one: &mut M, other: &mut M, base: usize, len: usize,
 }
 
 /// The same for writes, of any two words.
-pub fn write_both<M: Memory>(one: &mut M, other: &mut M, base: usize, len: usize, i: usize, j: usize, v: u32, w: u32)
+pub fn write_both<M: Memory>(
+    one: &mut M,
+    other: &mut M,
+    base: usize,
+    len: usize,
+    i: usize,
+    j: usize,
+    v: u32,
+    w: u32,
+)
     ensures one { λ _. ⌜ model (now (one .exit)) ≡ writeAfter (model (now (one .entry))) base len i v ⌝ }
     ensures other { λ _. ⌜ model (now (other .exit)) ≡ writeAfter (model (now (other .entry))) base len j w ⌝ }
     ensures same { λ _. ⌜ (SameButCells (model (now (one .entry))) (model (now (other .entry))) → i ≡ j → SameButCells (model (now (one .exit))) (model (now (other .exit)))) ⌝ }

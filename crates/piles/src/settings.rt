@@ -30,7 +30,12 @@ pub fn perform<M: Memory>(memory: &mut M, operation: Operation)
         Operation::Read { base, len, off } => {
             let _ = memory.read(base, len, off);
         }
-        Operation::Write { base, len, off, word } => {
+        Operation::Write {
+            base,
+            len,
+            off,
+            word,
+        } => {
             let _ = memory.write(base, len, off, word);
         }
         Operation::Clear => memory.clear(),

@@ -1,32 +1,40 @@
-use mathlib.Core.Path.{_≡_, sym, ap, _∙_}
+use mathlib.Core.Path.{_≡_, ap, _∙_}
 use mathlib.Core.Bool.{cond}
-use Prim.Native.Nat.{_+_}
 use lib.Dec.{eqb}
-use lib.ListN.{getD}
 use Rattle.std.specs.Results.{isOk}
 use Rattle.full_scan.proofs.Turns.{write-turn-read, write-turn, ok-same}
 use Rattle.full_scan.proofs.write_all.Needs as need
 
 pub unwrap-old-requires : need.unwrap-old-requires
 unwrap-old-requires g c κs =
-    let m = g .M·Memory .model in
-    let t = write-turn-read (m (c .args .below .now)) (g .M·Memory·met .lawful (c .args .below .now)) (c .args .base) (c .args .len) (c .loop-at .at) (c .loop-at-test .taken) (c .pre .within .fits) (c .args .off) (c .args .word) (c .pre .room) (m (c .loop-at .below)) (c .loop-at .inv) in
-    ap isOk (c .read .ensures .answer ∙ t .0)
+    let a = c .args in
+    let model = g .M·Memory .model in
+    let laws = g .M·Memory·met .lawful (a .below .now) in
+    let read = write-turn-read (model (a .below .now)) laws (a .base) (a .len) (c .loop-at .at) (c .loop-at-test .taken) (c .pre .within .fits) (a .off) (a .word) (c .pre .room) (model (c .loop-at .below)) (c .loop-at .inv) in
+    ap isOk (c .read .ensures .answer ∙ read .0)
 
 pub unwrap-requires : need.unwrap-requires
 unwrap-requires g c κs =
-    let m = g .M·Memory .model in
-    let t = write-turn-read (m (c .args .below .now)) (g .M·Memory·met .lawful (c .args .below .now)) (c .args .base) (c .args .len) (c .loop-at .at) (c .loop-at-test .taken) (c .pre .within .fits) (c .args .off) (c .args .word) (c .pre .room) (m (c .loop-at .below)) (c .loop-at .inv) in
-    let same = ok-same (c .unwrap-old .ensures) (c .read .ensures .answer ∙ t .0) in
-    let u = write-turn (m (c .args .below .now)) (g .M·Memory·met .lawful (c .args .below .now)) (c .args .base) (c .args .len) (c .loop-at .at) (c .loop-at-test .taken) (c .pre .within .fits) (c .args .off) (c .args .word) (c .pre .room) (m (c .read .last .self)) (c .chosen .result) (c .read .ensures .after ∙ t .1)
-        (c .chosen .ensures ∙ ap (cond (eqb (c .loop-at .at) (c .args .off)) (c .args .word)) same) in
-    ap isOk (c .write .ensures .answer ∙ u .0)
+    let a = c .args in
+    let n = c .loop-at .at in
+    let model = g .M·Memory .model in
+    let d = model (a .below .now) in
+    let laws = g .M·Memory·met .lawful (a .below .now) in
+    let read = write-turn-read d laws (a .base) (a .len) n (c .loop-at-test .taken) (c .pre .within .fits) (a .off) (a .word) (c .pre .room) (model (c .loop-at .below)) (c .loop-at .inv) in
+    let old = ok-same (c .unwrap-old .ensures) (c .read .ensures .answer ∙ read .0) in
+    let new = c .chosen .ensures ∙ ap (cond (eqb n (a .off)) (a .word)) old in
+    let write = write-turn d laws (a .base) (a .len) n (c .loop-at-test .taken) (c .pre .within .fits) (a .off) (a .word) (c .pre .room) (model (c .read .last .self)) (c .chosen .result) (c .read .ensures .after ∙ read .1) new in
+    ap isOk (c .write .ensures .answer ∙ write .0)
 
 pub loop-at-again : need.loop-at-again
 loop-at-again g c =
-    let m = g .M·Memory .model in
-    let t = write-turn-read (m (c .args .below .now)) (g .M·Memory·met .lawful (c .args .below .now)) (c .args .base) (c .args .len) (c .loop-at .at) (c .loop-at-test .taken) (c .pre .within .fits) (c .args .off) (c .args .word) (c .pre .room) (m (c .loop-at .below)) (c .loop-at .inv) in
-    let same = ok-same (c .unwrap-old .ensures) (c .read .ensures .answer ∙ t .0) in
-    let u = write-turn (m (c .args .below .now)) (g .M·Memory·met .lawful (c .args .below .now)) (c .args .base) (c .args .len) (c .loop-at .at) (c .loop-at-test .taken) (c .pre .within .fits) (c .args .off) (c .args .word) (c .pre .room) (m (c .read .last .self)) (c .chosen .result) (c .read .ensures .after ∙ t .1)
-        (c .chosen .ensures ∙ ap (cond (eqb (c .loop-at .at) (c .args .off)) (c .args .word)) same) in
-    c .write .ensures .after ∙ u .1
+    let a = c .args in
+    let n = c .loop-at .at in
+    let model = g .M·Memory .model in
+    let d = model (a .below .now) in
+    let laws = g .M·Memory·met .lawful (a .below .now) in
+    let read = write-turn-read d laws (a .base) (a .len) n (c .loop-at-test .taken) (c .pre .within .fits) (a .off) (a .word) (c .pre .room) (model (c .loop-at .below)) (c .loop-at .inv) in
+    let old = ok-same (c .unwrap-old .ensures) (c .read .ensures .answer ∙ read .0) in
+    let new = c .chosen .ensures ∙ ap (cond (eqb n (a .off)) (a .word)) old in
+    let write = write-turn d laws (a .base) (a .len) n (c .loop-at-test .taken) (c .pre .within .fits) (a .off) (a .word) (c .pre .room) (model (c .read .last .self)) (c .chosen .result) (c .read .ensures .after ∙ read .1) new in
+    c .write .ensures .after ∙ write .1
