@@ -12,6 +12,9 @@ use memory::Memory;
 use memory::denial::denial;
 use program::refusal::Refusal;
 
+/// How many cells there are.
+const CELLS: usize = 1024;
+
 /// Cell c is at row c / 4 of bank c % 4.
 #[derive(Drop)]
 pub struct Banked {
@@ -67,7 +70,7 @@ pub impl Memory for Banked as BankedMemory {
     }
 
     fn size(&self) -> usize {
-        1024
+        CELLS
     }
 
     fn free(&self) -> usize {
