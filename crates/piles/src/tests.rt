@@ -1,6 +1,6 @@
 // What some piles show and refuse.
-use crate::stacks::banked_line_scan;
-use crate::stacks::flat_scan_line;
+use crate::built::banked_line_scan;
+use crate::built::flat_scan_line;
 use banked::BankedMemory;
 use flat::Flat;
 use flat::FlatMemory;
