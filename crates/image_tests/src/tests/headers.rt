@@ -1,5 +1,6 @@
 // Header values and zero bytes.
 use crate::tests::expect;
+use std::alloc::Global;
 use std::test::*;
 
 #[test]
@@ -45,57 +46,36 @@ fn table_entries(rt: LibcRuntime) -> Result<(), Fail> {
     expect(heap, &[(10, 1)], &[], 3, 0)
 }
 
+// Tables of one cell each, eight of them, after a count of tables.
+const ONE_CELL: [(usize, u8); 8] = [
+    (8, 1),
+    (12, 1),
+    (16, 1),
+    (20, 1),
+    (24, 1),
+    (28, 1),
+    (32, 1),
+    (36, 1),
+];
+
+// Four tables of 1,024 cells each.
+const FULL: [(usize, u8); 4] = [(9, 4), (13, 4), (17, 4), (21, 4)];
+
+fn with_tables(heap: Global, used: u8, tables: &[(usize, u8)], number: u8) -> Result<(), Fail> {
+    let mut set = Vec::new(heap);
+    set.push((2, used))?;
+    set.extend_from_slice(tables)?;
+    expect(heap, &set, &[], number, 0)
+}
+
 #[test]
 fn number_of_tables_and_cells(rt: LibcRuntime) -> Result<(), Fail> {
     let heap = rt.alloc();
-    expect(
-        heap,
-        &[
-            (2, 8),
-            (8, 1),
-            (12, 1),
-            (16, 1),
-            (20, 1),
-            (24, 1),
-            (28, 1),
-            (32, 1),
-            (36, 1),
-        ],
-        &[],
-        0,
-        0,
-    )?;
-    expect(
-        heap,
-        &[
-            (2, 9),
-            (8, 1),
-            (12, 1),
-            (16, 1),
-            (20, 1),
-            (24, 1),
-            (28, 1),
-            (32, 1),
-            (36, 1),
-        ],
-        &[],
-        3,
-        0,
-    )?;
-    expect(
-        heap,
-        &[(2, 4), (9, 4), (13, 4), (17, 4), (21, 4)],
-        &[],
-        0,
-        0,
-    )?;
-    expect(
-        heap,
-        &[(2, 5), (9, 4), (13, 4), (17, 4), (21, 4), (24, 1)],
-        &[],
-        3,
-        0,
-    )
+    with_tables(heap, 8, &ONE_CELL, 0)?;
+    with_tables(heap, 9, &ONE_CELL, 3)?;
+    with_tables(heap, 7, &ONE_CELL, 3)?;
+    with_tables(heap, 4, &FULL, 0)?;
+    with_tables(heap, 5, &[(9, 4), (13, 4), (17, 4), (21, 4), (24, 1)], 3)
 }
 
 #[test]
