@@ -1,0 +1,6 @@
+// Programs and refusals as text for people.
+pub mod heading;
+pub mod line;
+pub mod listing;
+pub mod refused;
+pub mod written;

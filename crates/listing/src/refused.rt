@@ -1,0 +1,32 @@
+// A refusal on one line.
+use program::refusal::Reason;
+use program::refusal::Refusal;
+use std::fmt;
+
+/// A refusal, to be shown.
+#[derive(Clone, Copy)]
+pub struct Refused {
+    pub refusal: Refusal,
+}
+
+fn in_words(reason: Reason) -> &'static str {
+    match reason {
+        Reason::NoHeader => "the image is shorter than a header",
+        Reason::BadHeader => "a header value is out of range, or a byte that must be zero is not",
+        Reason::BadLength => "the image is not as long as its header says",
+        Reason::BadField => "an op is unknown, or a field is out of range or must be zero",
+        Reason::BadBracket => "a bracket has no partner",
+        Reason::TooDeep => "more than eight openings are open together",
+        Reason::NoRoomForCode => "the instruction list is shorter than the program",
+        Reason::NoRoomForImage => "the byte list is shorter than the image",
+    }
+}
+
+pub impl fmt::Display for Refused as RefusedDisplay {
+    fn fmt<W: fmt::Write>(&self, f: &mut fmt::Formatter<W>) -> fmt::Result {
+        let number = self.refusal.number();
+        let place = self.refusal.place;
+        let words = in_words(self.refusal.reason);
+        write!(f, "refused {number} at {place}: {words}")
+    }
+}
