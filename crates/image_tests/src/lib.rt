@@ -1,4 +1,3 @@
 // Tests of reading and writing images: the edges of every bound.
-pub mod case;
 #[cfg(test)]
 mod tests;

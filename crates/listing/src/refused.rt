@@ -47,5 +47,7 @@ fn in_words(reason: Reason) -> &'static str {
         Reason::TooDeep => "more than eight openings are open together",
         Reason::NoRoomForCode => "the instruction list is shorter than the program",
         Reason::NoRoomForImage => "the byte list is shorter than the image",
+        Reason::OutsideTable => "the access lies outside its table or the memory",
+        Reason::NoRoomForMarks => "the access shows more marks than the seen list has room for",
     }
 }

@@ -6,7 +6,7 @@ use Rattle.std.specs.declared.option.Option.the-variants.{Some, None}
 use Rattle.std.specs.declared.result.Result.{Result}
 use Rattle.std.specs.declared.result.Result.the-variants.{Ok, Err}
 use Rattle.program.specs.declared.refusal.Reason.{Reason}
-use Rattle.program.specs.declared.refusal.Reason.the-variants.{NoHeader, BadHeader, BadLength, BadField, BadBracket, TooDeep, NoRoomForCode, NoRoomForImage}
+use Rattle.program.specs.declared.refusal.Reason.the-variants.{NoHeader, BadHeader, BadLength, BadField, BadBracket, TooDeep, NoRoomForCode, NoRoomForImage, OutsideTable, NoRoomForMarks}
 use Rattle.program.specs.declared.refusal.Refusal.{Refusal}
 
 abbrev pub numberOf : Reason → ℕ
@@ -18,6 +18,8 @@ numberOf BadBracket = 6
 numberOf TooDeep = 7
 numberOf NoRoomForCode = 8
 numberOf NoRoomForImage = 16
+numberOf OutsideTable = 30
+numberOf NoRoomForMarks = 31
 
 abbrev pub refusal : Reason → ℕ → Refusal
 refusal why p = record { reason = why; place = p }

@@ -21,6 +21,10 @@ pub enum Reason {
     NoRoomForCode = 8,
     /// A byte list shorter than the image.
     NoRoomForImage = 16,
+    /// An access outside its table, or to a table that is not within the cells.
+    OutsideTable = 30,
+    /// An access that shows more marks than the seen list has room for.
+    NoRoomForMarks = 31,
 }
 
 /// A refusal: a reason, and a place that is 0 where the reason has none.
