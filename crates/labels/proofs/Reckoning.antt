@@ -213,7 +213,7 @@ small-zeros zero k = omega arith
 small-zeros (suc n) zero = omega arith
 small-zeros (suc n) (suc k) = small-zeros n k
 
-zeros : (n k : ℕ) → _≡_ {A = ℕ} (getD (replicate n 0) k 0) 0
+pub zeros : (n k : ℕ) → _≡_ {A = ℕ} (getD (replicate n 0) k 0) 0
 zeros zero k = refl
 zeros (suc n) zero = refl
 zeros (suc n) (suc k) = zeros n k
