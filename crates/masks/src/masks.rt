@@ -22,7 +22,7 @@ use stack::Stack;
 #[derive(Drop)]
 pub struct Masks {
     openings: Stack<Marked<bool>>,
-    count: u8,
+    count: usize,
     ghost counted: { count ≡ secretsOf (held openings) },
 }
 
@@ -49,7 +49,7 @@ impl Masks {
         ensures value { λ r. ⌜ r ≡ secretsOf (held (now (self .entry) .openings)) ⌝ }
         ensures few { λ r. ⌜ r ≤ 8 ⌝ }
     {
-        self.count
+        self.count as u8
     }
 
     /// Whether the place is masked: some if around it is secret.
@@ -64,7 +64,7 @@ impl Masks {
         requires { ⌜ length (opens secrecy (bits secret) (held (now self .openings)) place instruction) ≤ 8 ⌝ }
         ensures { λ _. ⌜ held (now (self .exit) .openings) ≡ opens secrecy (bits secret) (held (now (self .entry) .openings)) place instruction ⌝ }
     {
-        match (self.openings.top(), instruction) {
+        match (self.innermost(), instruction) {
             (_, Instruction::If { condition }) => self.open(mark(
                 Opening::Then { place, condition },
                 has(secret, condition),
@@ -113,14 +113,14 @@ impl Masks {
         ensures { λ _. ⌜ held (now (self .exit) .openings) ≡ opening ∷ held (now (self .entry) .openings) ⌝ }
     {
         self.openings.push(opening);
-        self.count += opening.label as u8;
+        self.count += opening.label as usize;
     }
 
     // Another opening in place of the innermost, with the same label.
     fn turn(&mut self, opening: Opening)
         ensures { λ _. ⌜ held (now (self .exit) .openings) ≡ turned opening (held (now (self .entry) .openings)) ⌝ }
     {
-        if let Some(innermost) = self.openings.top() {
+        if let Some(innermost) = self.innermost() {
             self.openings.swap(mark(opening, innermost.label));
         }
     }
@@ -128,9 +128,9 @@ impl Masks {
     fn close(&mut self)
         ensures { λ _. ⌜ held (now (self .exit) .openings) ≡ below (held (now (self .entry) .openings)) ⌝ }
     {
-        if let Some(innermost) = self.openings.top() {
+        if let Some(innermost) = self.innermost() {
             self.openings.pop();
-            self.count -= innermost.label as u8;
+            self.count -= innermost.label as usize;
         }
     }
 }
