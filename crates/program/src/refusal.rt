@@ -19,6 +19,10 @@ pub enum Reason {
     TooDeep = 7,
     /// An instruction list shorter than the program.
     NoRoomForCode = 8,
+    /// A program that is not a source where a source is asked for.
+    NotASource = 10,
+    /// A list of numbers shorter than a plan.
+    NoRoomForResult = 15,
     /// A byte list shorter than the image.
     NoRoomForImage = 16,
     /// An access outside its table, or to a table that is not within the cells.
