@@ -19,8 +19,20 @@ pub enum Reason {
     TooDeep = 7,
     /// An instruction list shorter than the program.
     NoRoomForCode = 8,
+    /// A program whose most steps are above 1,000,000.
+    TooManySteps = 14,
     /// A byte list shorter than the image.
     NoRoomForImage = 16,
+    /// A memory smaller than the tables.
+    MemoryTooSmall = 21,
+    /// Most marks above what is free.
+    NoFreeMarks = 25,
+    /// A visit list shorter than the most steps.
+    NoRoomForVisits = 28,
+    /// An access outside its table, or to a table that is not within the cells.
+    OutsideTable = 30,
+    /// An access that shows more marks than the seen list has room for.
+    NoRoomForMarks = 31,
 }
 
 /// A refusal: a reason, and a place that is 0 where the reason has none.

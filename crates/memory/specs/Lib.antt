@@ -1,0 +1,3 @@
+pub mod Description
+pub mod Accesses
+pub mod Laws
