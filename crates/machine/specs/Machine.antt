@@ -1,7 +1,7 @@
 -- The machine: one step from where a run is, and the run.
 use mathlib.Core.Bool.{Bool, true, false}
 use mathlib.Core.List.{List, [], _∷_}
-use Prim.Native.Nat.{ℕ, zero, suc, pred, _+_, min}
+use Prim.Native.Nat.{ℕ, zero, suc, pred, _+_, _-_, min}
 use lib.Dec.{ltb}
 use lib.ListN.{drop, getD}
 use Rattle.instructions.specs.declared.Op.{Op}
@@ -59,6 +59,10 @@ stateOf (stop p s) = s
 -- a repeat whose body begins at q, with m rounds left
 abbrev pub openAt : ℕ → ℕ → OpenRepeat
 openAt q m = record { start = q; left = m }
+
+-- one round less
+abbrev pub lowered : OpenRepeat → OpenRepeat
+lowered f = openAt (f .start) (f .left - 1)
 
 -- the place of the bracket that closes the d-th opening around place p, 0 the innermost; with
 -- `elses`, an else of that opening counts as such
