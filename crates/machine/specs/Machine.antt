@@ -110,15 +110,15 @@ abbrev pub back : List OpenRepeat → ℕ → State → Conf
 back [] p s = stop p s
 back (f ∷ fs) p s = goesOn (pred (f .left)) (f .start) fs p s
 
-module _ (tables : List Table) (code : List Instruction) where
-  -- where an if whose register is 0 goes, seen from place p inside d further openings: after its
-  -- else, or to its end
-  abbrev pub other : ℕ → ℕ → List Instruction → ℕ
-  other d p is = afterElse (drop (closing true d p is) code) (closing true d p is)
+-- where the d-th if around place p of the code, 0 the innermost, goes when its register is 0: to the
+-- place after its else, or to its end
+abbrev pub other : List Instruction → ℕ → ℕ → List Instruction → ℕ
+other code d p is = afterElse (drop (closing true d p is) code) (closing true d p is)
 
+module _ (tables : List Table) (code : List Instruction) where
   -- an if at p, by its register's word
   abbrev pub test : ℕ → ℕ → List Instruction → List OpenRepeat → State → Conf
-  test zero p is fs s = go (other zero (suc p) is) fs (visited p 2 s)
+  test zero p is fs s = go (other code zero (suc p) is) fs (visited p 2 s)
   test (suc n) p is fs s = go (suc p) fs (visited p 1 s)
 
   -- one step at p, where these instructions are left
