@@ -46,7 +46,13 @@ fn in_words(reason: Reason) -> &'static str {
         Reason::BadBracket => "a bracket has no partner",
         Reason::TooDeep => "more than eight openings are open together",
         Reason::NoRoomForCode => "the instruction list is shorter than the program",
+        Reason::NotASource => "the program is not a source",
+        Reason::TooManySteps => "the most steps are above 1,000,000",
+        Reason::NoRoomForResult => "the list is shorter than the result",
         Reason::NoRoomForImage => "the byte list is shorter than the image",
+        Reason::MemoryTooSmall => "the memory is smaller than the tables",
+        Reason::NoFreeMarks => "the most marks are above what is free",
+        Reason::NoRoomForVisits => "the visit list is shorter than the most steps",
         Reason::OutsideTable => "the access lies outside its table or the memory",
         Reason::NoRoomForMarks => "the access shows more marks than the seen list has room for",
     }
