@@ -28,7 +28,7 @@ use Rattle.labels.proofs.Numbers.{same-plan}
 use Rattle.labels.proofs.Reckoning.{reckoned}
 use Rattle.labels.proofs.Passing.{rising-start}
 use Rattle.std.proofs.shelf.Lists.{getD-take}
-use Rattle.plan.specs.Planned.{Labelled, planOf}
+use Rattle.plan.specs.Planned.{Passable, planOf}
 
 pub sets-round : (S T U : ℕ → ℕ → Bool) (q p : ℕ) → T ≡ along secrecy (way p (q + 1) ∷ way p (p + 1) ∷ []) S → U ≡ passed secrecy (way q (p + 1)) T
     → U ≡ along secrecy (way p (suc q) ∷ way p (suc p) ∷ way q (suc p) ∷ []) S
@@ -63,8 +63,8 @@ length-code n list h = omega (arith, length-take n list)
 
 module _ (h : Header) (list : List Instruction) (kind : h .kind ≡ Source) (used : h .used ≤ 8) (room : h .count ≤ length list) where
   -- the code of a source is one that passes can label
-  pub labelled : ((p : ℕ) → p < h .count → bound (registersOf (h .kind)) (h .used) (getD list p Again) ≡ true) → isSome (pairing [] 0 (take (h .count) list)) ≡ false → Labelled (take (h .count) list)
-  labelled bounds pairs =
+  pub passable : ((p : ℕ) → p < h .count → bound (registersOf (h .kind)) (h .used) (getD list p Again) ≡ true) → isSome (pairing [] 0 (take (h .count) list)) ≡ false → Passable (take (h .count) list)
+  passable bounds pairs =
       let n = length-code (h .count) list room in
       record {
         bounds = λ p lt.
@@ -74,7 +74,7 @@ module _ (h : Header) (list : List Instruction) (kind : h .kind ≡ Source) (use
       }
 
 -- numbers of 16 bits that are the smallest sets are the ones reckoned
-pub is-plan : (h : Header) (code : List Instruction) (l : List ℕ) → Labelled code → h .«secret_entry» < 65536 → length l ≡ length code + 1 → ((k : ℕ) → getD l k 0 < 65536)
+pub is-plan : (h : Header) (code : List Instruction) (l : List ℕ) → Passable code → h .«secret_entry» < 65536 → length l ≡ length code + 1 → ((k : ℕ) → getD l k 0 < 65536)
     → Smallest secrecy (secretTables (h .tables)) (bits (h .«secret_entry»)) code (sets l) → l ≡ planOf h code
 is-plan h code l good narrow long small least =
     let r = reckoned 8 (secretTables (h .tables)) (h .«secret_entry») code narrow (good .bounds) in

@@ -36,6 +36,6 @@ Planned (Ok u) h code before after = (after ≡ planOf h code ++ drop (length co
 Planned (Err e) h code before after = after ≡ before
 
 -- what a pass needs of the code: registers 0 to 15, tables 0 to 7, and at most eight openings around any place
-pub record Labelled (code : List Instruction) : Type 0 where
+pub record Passable (code : List Instruction) : Type 0 where
   pub bounds : (p : ℕ) → p < length code → bound 16 8 (getD code p Again) ≡ true
   pub few : (p : ℕ) → length (around code p) ≤ 8

@@ -22,7 +22,7 @@ use program::header::Table;
 use program::opening::Marked;
 use program::opening::Opening;
 
-pub fn either(left: bool, right: bool) -> bool
+pub(crate) fn either(left: bool, right: bool) -> bool
     ensures { λ r. ⌜ r ≡ (left || right) ⌝ }
 {
     left || right
@@ -192,7 +192,7 @@ fn flow_op(op: Op, masks: &Masks, list: &mut [u16], place: usize, tables: &[Tabl
 }
 
 // Raises the sets as the instruction at `place` asks, and says whether any changed.
-pub fn flow(
+pub(crate) fn flow(
     instruction: Instruction,
     masks: &Masks,
     list: &mut [u16],

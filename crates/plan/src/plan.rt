@@ -9,7 +9,7 @@ ghost use Rattle.labels.specs.Kinds.{secrecy};
 ghost use Rattle.labels.specs.Rules.{Smallest};
 ghost use Rattle.labels.specs.Passes.{sweep, Rising};
 ghost use Rattle.labels.specs.Sets.{bits, sets, secretTables, Grew};
-ghost use Rattle.plan.specs.Planned.{planRefusal, Planned, Labelled};
+ghost use Rattle.plan.specs.Planned.{planRefusal, Planned, Passable};
 use crate::flow::either;
 use crate::flow::flow;
 use instructions::Instruction;
@@ -24,7 +24,7 @@ use program::refusal::Refusal;
 
 // One pass over all places; says whether anything changed.
 fn pass_over(code: &[Instruction], tables: &[Table; 8], list: &mut [u16]) -> bool
-    requires code { ⌜ Labelled (now code) ⌝ }
+    requires code { ⌜ Passable (now code) ⌝ }
     requires long { ⌜ length (now list) ≡ length (now code) + 1 ⌝ }
     ensures sets { λ _. ⌜ sets (now (list .exit)) ≡ sweep secrecy (secretTables (now (tables .entry))) [] 0 (now (code .entry)) (sets (now (list .entry))) ⌝ }
     ensures grew { λ r. ⌜ Grew r (now (list .entry)) (now (list .exit)) ⌝ }
@@ -42,7 +42,7 @@ fn pass_over(code: &[Instruction], tables: &[Table; 8], list: &mut [u16]) -> boo
 
 // Passes until one changes nothing. Each one that changes something leaves less room in the numbers.
 fn settle(code: &[Instruction], header: &Header, list: &mut [u16])
-    requires code { ⌜ Labelled (now code) ⌝ }
+    requires code { ⌜ Passable (now code) ⌝ }
     requires long { ⌜ length (now list) ≡ length (now code) + 1 ⌝ }
     requires rising { ⌜ Rising secrecy (secretTables (now header .tables)) (bits (now header .«secret_entry»)) (now code) (sets (now list)) ⌝ }
     ensures { λ _. ⌜ Smallest secrecy (secretTables (now (header .entry) .tables)) (bits (now (header .entry) .«secret_entry»)) (now (code .entry)) (sets (now (list .exit))) ⌝ }

@@ -10,8 +10,8 @@ use Rattle.labels.specs.Kinds.{secrecy}
 use Rattle.labels.specs.Rules.{Smallest}
 use Rattle.labels.specs.Sets.{bits, sets, secretTables}
 use Rattle.labels.proofs.Passing.{rising-start}
-use Rattle.plan.specs.Planned.{Labelled, planOf}
-use Rattle.plan.proofs.Steps.{length-code, labelled, is-plan, small-front}
+use Rattle.plan.specs.Planned.{Passable, planOf}
+use Rattle.plan.proofs.Steps.{length-code, passable, is-plan, small-front}
 use Rattle.plan.proofs.plan.plan.Needs as need
 
 pub settle-requires : need.settle-requires
@@ -22,7 +22,7 @@ settle-requires c κs =
     let n = ap length (c .code .ensures) ∙ length-code (m .header .count) (vec-items (m .list)) (m .room) in
     let long : length (c .clear .last .list) ≡ c .args .program .now .header .count + 1 = search needs in
     record {
-      code = subst Labelled (sym (c .code .ensures)) (labelled (m .header) (vec-items (m .list)) kind (m .few) (m .room) (m .bounds) (m .pairs));
+      code = subst Passable (sym (c .code .ensures)) (passable (m .header) (vec-items (m .list)) kind (m .few) (m .room) (m .bounds) (m .pairs));
       long = long ∙ ap (λ x. x + 1) (sym n);
       rising = rising-start (secretTables (h .tables)) (h .«secret_entry») (c .code .result .now) (c .clear .last .list) (c .clear .ensures .first ∙ c .at-start .ensures .value) (c .clear .ensures .others);
     }
@@ -33,7 +33,7 @@ returns c =
     let h = m .header in
     let code = take (h .count) (vec-items (m .list)) in
     let kind : c .args .program .now .header .kind ≡ Source = search needs in
-    let good = labelled h (vec-items (m .list)) kind (m .few) (m .room) (m .bounds) (m .pairs) in
+    let good = passable h (vec-items (m .list)) kind (m .few) (m .room) (m .bounds) (m .pairs) in
     let n = length-code (h .count) (vec-items (m .list)) (m .room) in
     let long : length (c .settle .last .list) ≡ c .args .program .now .header .count + 1 = search needs in
     let same = c .header-header .ensures in
