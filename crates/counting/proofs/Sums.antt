@@ -2,7 +2,7 @@
 use mathlib.Core.Path.{_≡_, refl, sym, _∙_, ap}
 use mathlib.Core.List.{List, [], _∷_}
 use mathlib.Core.Logic.{_⊎_, ⊎-elim}
-use Prim.Native.Nat.{ℕ, zero, suc, _+_, _*_, max, _<_}
+use Prim.Native.Nat.{ℕ, zero, suc, _+_, _*_, max, _<_, _≤_}
 use native.Mathlib.Omega.{arith}
 use Rattle.std.proofs.shelf.Tests.{cases-lt}
 use Rattle.std.specs.declared.option.Option.the-variants.{None}
@@ -11,9 +11,11 @@ use Rattle.instructions.specs.declared.Instruction.the-variants.{Do, If, Else, 
 use Rattle.program.specs.Blocks.{Block, done, one, ifThen, ifElse, loop, flat}
 use Rattle.program.specs.Pairing.{pairing}
 use Rattle.brackets.proofs.Nesting.{tree}
-use Rattle.machine.specs.Most.{Price, hold, price, mostOf}
+use Rattle.machine.specs.Most.{Price, eachStep, hold, price, mostOf}
+use Rattle.execution.specs.Runs.{OverBy, CountsBy}
+use Rattle.execution.proofs.Onward.{over-by, counts-by}
 use Rattle.counting.specs.declared.part.Part.{Part}
-use Rattle.counting.specs.Counting.{Sum, part, sums}
+use Rattle.counting.specs.Counting.{Sum, part, sums, mostSteps}
 
 hold-turns : (y k m v : ℕ) → hold (hold y + (v + k * (hold (0 + m) + v))) ≡ hold (y + (v + k * (m + v)))
 hold-turns y zero m v = omega arith
@@ -54,3 +56,16 @@ module _ (w : Price) where
 
   pub summed : (code : List Instruction) → pairing [] 0 code ≡ None → Sum w code (sums w [] 0 code)
   summed code h = let t = tree (Unit {0}) (λ _. tt) code h in (t .0, t .1, sums-is (t .0) code (t .1))
+
+  -- a sum that is not held is the most itself
+  pub not-held : (code : List Instruction) → pairing [] 0 code ≡ None → {n : ℕ} → n ≡ sums w [] 0 code → n ≤ 1000000 → CountsBy w code n
+  not-held code h {n} e l =
+      let t = tree (Unit {0}) (λ _. tt) code h in
+      let s = sums-is (t .0) code (t .1) in
+      counts-by w code (t .0) (t .1) (t .2) n (omega arith)
+
+pub ends-by : (code : List Instruction) → pairing [] 0 code ≡ None → {n : ℕ} → n ≡ mostSteps code → n ≤ 1000000 → OverBy code n
+ends-by code h {n} e l =
+    let t = tree (Unit {0}) (λ _. tt) code h in
+    let s = sums-is eachStep (t .0) code (t .1) in
+    over-by code (t .0) (t .1) (t .2) n (omega arith)

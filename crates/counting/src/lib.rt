@@ -1,9 +1,11 @@
 // The most steps that a program can make, and the most marks that it can leave on a memory.
 ghost use mathlib.Core.Path.{_≡_};
 ghost use mathlib.Core.List.{map};
+ghost use Prim.Native.Nat.{_≤_};
 ghost use lib.ListN.{length};
 ghost use Rattle.machine.specs.Most.{eachStep};
 ghost use Rattle.machine.specs.Programs.{codeOf};
+ghost use Rattle.execution.specs.Runs.{OverBy, CountsBy};
 ghost use Rattle.counting.specs.Counting.{Sum, mostSteps, markPrice, mostMarks};
 use crate::pass::most;
 use crate::price::Price;
@@ -11,14 +13,16 @@ use memory::Access;
 use memory::Memory;
 use program::program::Program;
 
-pub mod part;
-pub mod pass;
-pub mod price;
+mod part;
+mod pass;
+mod price;
 
-/// The most steps of a run, held at 1,000,001: the sum over the nested blocks of the program.
+/// The most steps of a run, held at 1,000,001: the sum over the nested blocks of the program. Where
+/// it is not held, every run is over after so many steps.
 pub fn most_steps(program: &Program) -> usize
     ensures value { λ r. ⌜ r ≡ mostSteps (codeOf (now (program .entry))) ⌝ }
     ensures sum { λ r. ⌜ Sum eachStep (codeOf (now (program .entry))) r ⌝ }
+    ensures ends { λ r. ⌜ (r ≤ 1000000 → OverBy (codeOf (now (program .entry))) r) ⌝ }
 {
     most(
         program,
@@ -44,10 +48,12 @@ fn costs<M: Memory>(memory: &M, access: Access, program: &Program) -> [usize; 8]
 }
 
 /// The most marks that a run leaves on this memory, held at 1,000,001: the sum likewise, a load
-/// counting what a read of its table costs, and a store what a write costs.
+/// counting what a read of its table costs, and a store what a write costs. Where it is not held,
+/// no run leaves more.
 pub fn most_marks<M: Memory>(program: &Program, memory: &M) -> usize
     ensures value { λ r. ⌜ r ≡ mostMarks (model (now (memory .entry)) .rules .cost) (now (program .entry) .header .tables) (codeOf (now (program .entry))) ⌝ }
     ensures sum { λ r. ⌜ Sum (markPrice (model (now (memory .entry)) .rules .cost) (now (program .entry) .header .tables)) (codeOf (now (program .entry))) r ⌝ }
+    ensures within { λ r. ⌜ (r ≤ 1000000 → CountsBy (markPrice (model (now (memory .entry)) .rules .cost) (now (program .entry) .header .tables)) (codeOf (now (program .entry))) r) ⌝ }
 {
     most(
         program,

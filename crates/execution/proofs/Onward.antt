@@ -1,5 +1,5 @@
 -- What the whole run says of each step of it.
-use mathlib.Core.Path.{_≡_, sym, _∙_, ap, subst}
+use mathlib.Core.Path.{_≡_, refl, sym, _∙_, ap, subst}
 use mathlib.Core.List.{List, [], _∷_}
 use mathlib.Core.Logic.{_⊎_, inl, inr, ⊎-elim}
 use Prim.Native.Nat.{ℕ, _+_, _≤_, _<_}
@@ -15,7 +15,7 @@ use Rattle.machine.specs.States.{State}
 use Rattle.machine.specs.Machine.{Out, fine, fault, Conf, go, stop, stateOf, land, next, steps}
 use Rattle.machine.specs.Nested.{exec}
 use Rattle.machine.specs.Most.{Price, eachStep, weigh, mostOf}
-use Rattle.execution.specs.Runs.{Able, Running}
+use Rattle.execution.specs.Runs.{Able, Running, Over, OverBy, CountsBy}
 use Rattle.execution.proofs.ByPlaces.{split-steps}
 use Rattle.execution.proofs.Whole.{whole}
 
@@ -70,3 +70,13 @@ module _ {Note : Type 0} (tables : List Table) (code : List Instruction) (b : Bl
   -- the nested reading
   pub comes : (n : ℕ) → mostOf eachStep b ≤ n → steps tables code n (go 0 [] x) ≡ land (exec tables b 0 x) (length code) []
   comes n h = subst (λ (l : List Instruction). steps tables l n (go 0 [] x) ≡ land (exec tables b 0 x) (length l) []) same (let w = whole tables b x d in w .comes n (omega (arith, w .few)))
+
+landed-over : (code : List Instruction) (o : Out) → Over code (land o (length code) [])
+landed-over code (fine s) = (refl, refl)
+landed-over code (fault q s) = tt
+
+pub over-by : {Note : Type 0} (code : List Instruction) (b : Block Note) → flat b [] ≡ code → depth b ≤ 8 → (n : ℕ) → mostOf eachStep b ≤ n → OverBy code n
+over-by code b same d n h tables s = subst (Over code) (sym (comes tables code b same d s 0 n h)) (landed-over code (exec tables b 0 s))
+
+pub counts-by : {Note : Type 0} (w : Price) (code : List Instruction) (b : Block Note) → flat b [] ≡ code → depth b ≤ 8 → (n : ℕ) → mostOf w b ≤ n → CountsBy w code n
+counts-by w code b same d n h tables s k = let e = weighs tables code b same d s k w in omega arith

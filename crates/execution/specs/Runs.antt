@@ -51,6 +51,19 @@ abbrev pub Running : List Instruction → Conf → Type 0
 Running code (go p fs s) = Able (drop p code) fs × Inside (openAround code p) fs
 Running code (stop p s) = ⊥
 
+-- the run is over: at the end of the code with no repeat open, or at a fault
+abbrev pub Over : List Instruction → Conf → Type 0
+Over code (go p fs s) = (p ≡ length code) × (fs ≡ [])
+Over code (stop p s) = Unit {0}
+
+-- every run of the code is over after n steps
+abbrev pub OverBy : List Instruction → ℕ → Type 0
+OverBy code n = (tables : List Table) (s : State) → Over code (steps tables code n (go 0 [] s))
+
+-- no run of the code ever counts more than n
+abbrev pub CountsBy : Price → List Instruction → ℕ → Type 0
+CountsBy w code n = (tables : List Table) (s : State) (k : ℕ) → weigh w (stateOf (steps tables code k (go 0 [] s)) .trace) ≤ n + weigh w (s .trace)
+
 -- the whole run of a block, written out, from place 0
 pub record Whole {Note : Type 0} (tables : List Table) (b : Block Note) (s : State) : Type 0 where
   -- how many steps it takes, each of them one visit

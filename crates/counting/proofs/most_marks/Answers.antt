@@ -4,7 +4,7 @@ use Rattle.memory.specs.declared.Access.the-variants.{Read}
 use Rattle.machine.specs.Programs.{codeOf}
 use Rattle.machine.proofs.Programs.{code-pairs}
 use Rattle.counting.specs.Counting.{Sum, sums, priced, markPrice, mostMarks}
-use Rattle.counting.proofs.Sums.{summed}
+use Rattle.counting.proofs.Sums.{summed, not-held}
 use Rattle.counting.proofs.most_marks.Needs as need
 
 pub returns : need.returns
@@ -20,4 +20,5 @@ returns g c =
     record {
       value = e;
       sum = subst (Sum w (codeOf s)) (sym e) (summed w (codeOf s) (code-pairs s));
+      within = not-held w (codeOf s) (code-pairs s) e;
     }

@@ -4,7 +4,7 @@ use Rattle.machine.specs.Most.{eachStep}
 use Rattle.machine.specs.Programs.{codeOf}
 use Rattle.machine.proofs.Programs.{code-pairs}
 use Rattle.counting.specs.Counting.{Sum, sums, mostSteps}
-use Rattle.counting.proofs.Sums.{summed}
+use Rattle.counting.proofs.Sums.{summed, ends-by}
 use Rattle.counting.proofs.Adding.{steps-alone}
 use Rattle.counting.proofs.most_steps.Needs as need
 
@@ -15,4 +15,5 @@ returns c =
     record {
       value = e;
       sum = subst (Sum eachStep (codeOf s)) (sym e) (summed eachStep (codeOf s) (code-pairs s));
+      ends = ends-by (codeOf s) (code-pairs s) e;
     }
