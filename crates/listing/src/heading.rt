@@ -27,15 +27,14 @@ pub impl fmt::Display for Sizes as SizesDisplay {
     }
 }
 
-/// The secret entry registers, bit i for register i.
+/// A set of registers, bit i for register i, each behind a space.
 #[derive(Clone, Copy)]
-pub struct SecretEntry {
+pub struct RegisterSet {
     pub registers: u16,
 }
 
-pub impl fmt::Display for SecretEntry as SecretEntryDisplay {
+pub impl fmt::Display for RegisterSet as RegisterSetDisplay {
     fn fmt<W: fmt::Write>(&self, f: &mut fmt::Formatter<W>) -> fmt::Result {
-        f.write_str("secret entry registers:")?;
         if self.registers == 0 {
             return f.write_str(" none");
         }
