@@ -6,5 +6,7 @@ pub mod Bits
 pub mod Numbers
 pub mod Rows
 pub mod Passing
+pub mod Targets
+pub mod Heights
 pub mod Reckoning
 pub mod Proved

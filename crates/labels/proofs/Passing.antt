@@ -90,7 +90,7 @@ module _ {L : Type 0} (K : LabelKind L) where
     below-all Z z (suc p) r = subst (λ A. Within K (A r) (Z (suc p) r)) (sym (others (suc p) (omega arith))) (lowest K laws (Z (suc p) r))
 
     -- the entry labels at place 0 and the least elsewhere lie within every solution
-    rising-from : Rising K tables entry code S
+    pub rising-from : Rising K tables entry code S
     rising-from = record { start = λ r. subst (λ A. Within K (entry r) (A r)) (sym start) (same K laws (entry r)); below = below-all }
 
 pub rising-start : (tables : ℕ → Bool) (x : ℕ) (code : List Instruction) (l : List ℕ) → getD l 0 0 ≡ x → ((k : ℕ) → 0 < k → _≡_ {A = ℕ} (getD l k 0) 0) → Rising secrecy tables (bits x) code (sets l)

@@ -2,7 +2,7 @@
 use mathlib.Core.Path.{_≡_, refl, sym, _∙_, ap, subst}
 use mathlib.Core.Bool.{Bool, true, false}
 use mathlib.Core.List.{List, [], _∷_}
-use Prim.Native.Nat.{ℕ, zero, suc, _<_}
+use Prim.Native.Nat.{ℕ, zero, suc, _+_, _<_}
 use native.Mathlib.Omega.{arith}
 use lib.ListN.{length, getD, drop}
 use Rattle.instructions.specs.declared.Instruction.{Instruction}
@@ -19,6 +19,7 @@ use Rattle.labels.specs.Theorems.{Smallest-exists, Theory, withConst, withoutC
 use Rattle.labels.proofs.Plain.{plain}
 use Rattle.labels.proofs.Solving.{rising, reached, unique}
 use Rattle.labels.proofs.Starts.{start-is-entry}
+use Rattle.labels.proofs.Heights.{smallest-of-kind}
 use Rattle.labels.proofs.Reckoning.{reckoned}
 
 pub smallest-exists : Smallest-exists
@@ -38,6 +39,7 @@ module _ {L : Type 0} (K : LabelKind L) (laws : Lawful K) where
   theory = record {
     rising = rising K laws;
     reached = reached K laws;
+    exists = λ most rises registers used tables entry code narrow bounds. smallest-of-kind K laws registers (length code + 1) used tables code refl bounds most rises entry narrow;
     unique = unique K laws;
     start = start-is-entry K laws;
     arms = arms;

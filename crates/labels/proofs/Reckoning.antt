@@ -13,18 +13,17 @@ use Rattle.instructions.specs.declared.Op.{Op}
 use Rattle.instructions.specs.declared.Op.the-variants.{Set, Pick, Load, Store}
 use Rattle.instructions.specs.declared.Instruction.{Instruction}
 use Rattle.instructions.specs.declared.Instruction.the-variants.{Do, If, Else, End, Repeat, Again}
-use Rattle.program.specs.declared.opening.Opening.{Opening}
-use Rattle.program.specs.declared.opening.Opening.the-variants.{Then, Otherwise, Loop}
 use Rattle.program.specs.declared.opening.Marked.{Marked}
-use Rattle.program.specs.Openings.{past, around, Before}
+use Rattle.program.specs.Openings.{past, around}
 use Rattle.program.specs.Bounds.{boundOp, bound}
 use Rattle.program.proofs.Around.{around-next, around-none, drop-next, drop-at}
 use Rattle.labels.specs.Kinds.{secrecy}
-use Rattle.labels.specs.Rules.{Way, Each, elseWays, endWays, againWays, put, leaves, maskOf, ways, Smallest}
+use Rattle.labels.specs.Rules.{Way, put, leaves, maskOf, ways, Smallest}
 use Rattle.labels.specs.Passes.{unmarked, Ahead, raised, passed, along, flow, opens, sweep, Rising}
 use Rattle.labels.specs.Sets.{bits, sets, room, Grew}
 use Rattle.labels.specs.Plans.{numberPut, numberLeaves, numberRaised, numbersAlong, numbersFlow, numbersSweep, settled, labelsOf}
 use Rattle.labels.proofs.Bits.{bits-or, bits-in, bits-out}
+use Rattle.labels.proofs.Targets.{Targets, within}
 use Rattle.labels.proofs.Rows.{sets-raised, grew-raise, grew-none, grew-both}
 use Rattle.labels.proofs.Plain.{plain}
 use Rattle.labels.proofs.Solving.{rising, reached}
@@ -43,42 +42,12 @@ leaves-bits tables m (Store d a b) x = refl
 raise-sets : (l : List ℕ) (q x : ℕ) → q < length l → sets (numberRaised l q x) ≡ raised secrecy (sets l) q (bits x)
 raise-sets l q x h = sets-raised l q (bitOr (getD l q 0) x) (bits x) h (bits-or (getD l q 0) x)
 
-abbrev Within : ℕ → List Way → Type 0
-Within n ws = Each (λ w. w .to < n) ws
-
-along-sets : (ws : List Way) (l : List ℕ) → Within (length l) ws → sets (numbersAlong ws l) ≡ along secrecy ws (sets l)
+along-sets : (ws : List Way) (l : List ℕ) → Targets (length l) ws → sets (numbersAlong ws l) ≡ along secrecy ws (sets l)
 along-sets [] l h = refl
 along-sets (w ∷ ws) l h =
     let x = getD l (w .from) 0 in
-    along-sets ws (numberRaised l (w .to) x) (subst (λ n. Within n ws) (sym (length-set l (w .to) (bitOr (getD l (w .to) 0) x))) (h .1))
+    along-sets ws (numberRaised l (w .to) x) (subst (λ n. Targets n ws) (sym (length-set l (w .to) (bitOr (getD l (w .to) 0) x))) (h .1))
     ∙ ap (along secrecy ws) (raise-sets l (w .to) x (h .0))
-
-else-within : (w : Opening) (c : Bool) (p n : ℕ) → suc p < n → Within n (elseWays w c p)
-else-within (Then q a) true p n h = (omega arith, (omega arith, tt))
-else-within (Then q a) false p n h = (omega arith, tt)
-else-within (Otherwise q a e) c p n h = tt
-else-within (Loop q) c p n h = tt
-
-end-within : (w : Opening) (p n : ℕ) → suc p < n → Within n (endWays w p)
-end-within (Then q a) p n h = (omega arith, (omega arith, tt))
-end-within (Otherwise q a e) p n h = (omega arith, (omega arith, tt))
-end-within (Loop q) p n h = tt
-
-again-within : (w : Opening) (p n : ℕ) → suc p < n → Before p w → Within n (againWays w p)
-again-within (Then q a) p n h b = tt
-again-within (Otherwise q a e) p n h b = tt
-again-within (Loop q) p n h b = (omega arith, (omega arith, (omega arith, tt)))
-
-within : (ks : List (Marked Bool)) (p n : ℕ) (i : Instruction) → suc p < n → Ahead p ks → Within n (ways secrecy ks p i)
-within ks p n (Do o) h a = tt
-within ks p n (If r) h a = (omega arith, tt)
-within [] p n Else h a = tt
-within (k ∷ ks) p n Else h a = else-within (k .opening) (k .label) p n h
-within [] p n End h a = tt
-within (k ∷ ks) p n End h a = end-within (k .opening) p n h
-within ks p n (Repeat r k) h a = (omega arith, tt)
-within [] p n Again h a = tt
-within (k ∷ ks) p n Again h a = again-within (k .opening) p n h a
 
 -- numbers of 16 bits
 abbrev pub Small : List ℕ → Type 0
@@ -109,12 +78,12 @@ step-raise l q x h b s =
     let v : bitOr (getD l q 0) x < 65536 = or-lt 16 (getD l q 0) x (s q) b in
     record { long = length-set l q (bitOr (getD l q 0) x); small = small-set l q (bitOr (getD l q 0) x) v s; flag = not (eqb (bitOr (getD l q 0) x) (getD l q 0)); grew = grew-raise l q x _ h v refl }
 
-step-along : (ws : List Way) (l : List ℕ) → Within (length l) ws → Small l → Step l (numbersAlong ws l)
+step-along : (ws : List Way) (l : List ℕ) → Targets (length l) ws → Small l → Step l (numbersAlong ws l)
 step-along [] l h s = step-none l s
 step-along (w ∷ ws) l h s =
     let x = getD l (w .from) 0 in
     let f = step-raise l (w .to) x (h .0) (s (w .from)) s in
-    step-both l (numberRaised l (w .to) x) _ f (step-along ws (numberRaised l (w .to) x) (subst (λ n. Within n ws) (sym (f .long)) (h .1)) (f .small))
+    step-both l (numberRaised l (w .to) x) _ f (step-along ws (numberRaised l (w .to) x) (subst (λ n. Targets n ws) (sym (f .long)) (h .1)) (f .small))
 
 with-small : (x d : ℕ) (c : Bool) → x < 65536 → d < 16 → numberPut x d c < 65536
 with-small x d true h b = or-lt 16 x (2 ^ d) h (pow-below d 16 b)
@@ -136,19 +105,19 @@ leaves-small used tables m (Store d a e) x b h = h
 module _ (tables : ℕ → Bool) where
   flow-sets : (ks : List (Marked Bool)) (p : ℕ) (i : Instruction) (l : List ℕ) → suc p < length l → Ahead p ks → sets (numbersFlow tables ks p i l) ≡ flow secrecy tables ks p i (sets l)
   flow-sets ks p (Do o) l h a = raise-sets l (suc p) (numberLeaves tables (maskOf secrecy ks) o (getD l p 0)) h ∙ ap (raised secrecy (sets l) (suc p)) (leaves-bits tables (maskOf secrecy ks) o (getD l p 0))
-  flow-sets ks p (If r) l h a = along-sets (ways secrecy ks p (If r)) l (within ks p (length l) (If r) h a)
-  flow-sets ks p Else l h a = along-sets (ways secrecy ks p Else) l (within ks p (length l) Else h a)
-  flow-sets ks p End l h a = along-sets (ways secrecy ks p End) l (within ks p (length l) End h a)
-  flow-sets ks p (Repeat r k) l h a = along-sets (ways secrecy ks p (Repeat r k)) l (within ks p (length l) (Repeat r k) h a)
-  flow-sets ks p Again l h a = along-sets (ways secrecy ks p Again) l (within ks p (length l) Again h a)
+  flow-sets ks p (If r) l h a = along-sets (ways secrecy ks p (If r)) l (within secrecy ks p (length l) (If r) h a)
+  flow-sets ks p Else l h a = along-sets (ways secrecy ks p Else) l (within secrecy ks p (length l) Else h a)
+  flow-sets ks p End l h a = along-sets (ways secrecy ks p End) l (within secrecy ks p (length l) End h a)
+  flow-sets ks p (Repeat r k) l h a = along-sets (ways secrecy ks p (Repeat r k)) l (within secrecy ks p (length l) (Repeat r k) h a)
+  flow-sets ks p Again l h a = along-sets (ways secrecy ks p Again) l (within secrecy ks p (length l) Again h a)
 
   flow-step : (used : ℕ) (ks : List (Marked Bool)) (p : ℕ) (i : Instruction) (l : List ℕ) → bound 16 used i ≡ true → suc p < length l → Ahead p ks → Small l → Step l (numbersFlow tables ks p i l)
   flow-step used ks p (Do o) l b h a s = step-raise l (suc p) (numberLeaves tables (maskOf secrecy ks) o (getD l p 0)) h (leaves-small used tables (maskOf secrecy ks) o (getD l p 0) b (s p)) s
-  flow-step used ks p (If r) l b h a s = step-along (ways secrecy ks p (If r)) l (within ks p (length l) (If r) h a) s
-  flow-step used ks p Else l b h a s = step-along (ways secrecy ks p Else) l (within ks p (length l) Else h a) s
-  flow-step used ks p End l b h a s = step-along (ways secrecy ks p End) l (within ks p (length l) End h a) s
-  flow-step used ks p (Repeat r k) l b h a s = step-along (ways secrecy ks p (Repeat r k)) l (within ks p (length l) (Repeat r k) h a) s
-  flow-step used ks p Again l b h a s = step-along (ways secrecy ks p Again) l (within ks p (length l) Again h a) s
+  flow-step used ks p (If r) l b h a s = step-along (ways secrecy ks p (If r)) l (within secrecy ks p (length l) (If r) h a) s
+  flow-step used ks p Else l b h a s = step-along (ways secrecy ks p Else) l (within secrecy ks p (length l) Else h a) s
+  flow-step used ks p End l b h a s = step-along (ways secrecy ks p End) l (within secrecy ks p (length l) End h a) s
+  flow-step used ks p (Repeat r k) l b h a s = step-along (ways secrecy ks p (Repeat r k)) l (within secrecy ks p (length l) (Repeat r k) h a) s
+  flow-step used ks p Again l b h a s = step-along (ways secrecy ks p Again) l (within secrecy ks p (length l) Again h a) s
 
 module _ (used : ℕ) (tables : ℕ → Bool) (code : List Instruction) (bounds : (p : ℕ) → p < length code → bound 16 used (getD code p Again) ≡ true) where
   record Swept (ks : List (Marked Bool)) (p : ℕ) (is : List Instruction) (l : List ℕ) : Type 0 where

@@ -220,7 +220,7 @@ module _ {L : Type 0} (K : LabelKind L) (laws : Lawful K) where
     flow-stable ks p (Repeat a k) S h = along-stable (ways K ks p (Repeat a k)) S h
     flow-stable ks p Again S h = along-stable (ways K ks p Again) S h
 
-    sweep-up : (is : List Instruction) (ks : List (Marked L)) (p : ℕ) (S : ℕ → ℕ → L) → Le S (sweep K tables ks p is S)
+    pub sweep-up : (is : List Instruction) (ks : List (Marked L)) (p : ℕ) (S : ℕ → ℕ → L) → Le S (sweep K tables ks p is S)
     sweep-up [] ks p S = λ q r. same K laws (S q r)
     sweep-up (i ∷ is) ks p S = le-trans S (flow K tables ks p i S) _ (flow-up ks p i S) (sweep-up is (opens K (S p) ks p i) (suc p) (flow K tables ks p i S))
 

@@ -1,6 +1,7 @@
 -- What may serve as a label, and the plain kind: public or secret.
 use mathlib.Core.Path.{_≡_}
 use mathlib.Core.Bool.{Bool, true, false, _||_}
+use Prim.Native.Nat.{ℕ, _≤_}
 
 pub record LabelKind (L : Type 0) : Type 0 where
   -- the label of what everyone may see
@@ -25,3 +26,11 @@ pub record Lawful {L : Type 0} (K : LabelKind L) : Type 0 where
 -- a register is in the set of secret ones, or it is not
 abbrev pub secrecy : LabelKind Bool
 secrecy = record { least = false; join = λ a b. a || b; secret = λ a. a }
+
+-- at most so many rises above the least label: each label has a height, and what is joined to it and changes it
+-- makes it higher
+pub record Rises {L : Type 0} (K : LabelKind L) (most : ℕ) : Type 0 where
+  pub height : L → ℕ
+  pub bounded : (a : L) → height a ≤ most
+  pub ordered : (a b : L) → height a ≤ height (K .join a b)
+  pub strict : (a b : L) → height a ≡ height (K .join a b) → K .join a b ≡ a

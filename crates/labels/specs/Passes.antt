@@ -81,6 +81,16 @@ module _ {L : Type 0} (K : LabelKind L) where
   sweep tables ks p [] S = S
   sweep tables ks p (i ∷ is) S = sweep tables (opens (S p) ks p i) (suc p) is (flow tables ks p i S)
 
+  -- the entry labels at place 0, and the least elsewhere
+  abbrev pub onset : (ℕ → L) → ℕ → ℕ → L
+  onset entry zero = entry
+  onset entry (suc p) = λ r. K .least
+
+  -- S, after so many passes
+  abbrev pub passes : (ℕ → L) → List Instruction → ℕ → (ℕ → ℕ → L) → ℕ → ℕ → L
+  passes tables code zero S = S
+  passes tables code (suc more) S = passes tables code more (sweep tables [] 0 code S)
+
   -- on the way up: the entry labels are there, and nothing that some solution lacks
   pub record Rising (tables entry : ℕ → L) (code : List Instruction) (S : ℕ → ℕ → L) : Type 0 where
     pub start : Sub K entry (S 0)

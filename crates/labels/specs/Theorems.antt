@@ -2,7 +2,7 @@
 use mathlib.Core.Path.{_≡_}
 use mathlib.Core.Bool.{Bool, true, false}
 use mathlib.Core.List.{List, [], _∷_}
-use Prim.Native.Nat.{ℕ, suc, _<_}
+use Prim.Native.Nat.{ℕ, suc, _+_, _*_, _<_, _≤_}
 use lib.ListN.{length, getD, drop}
 use Rattle.instructions.specs.declared.Value.the-variants.{Const}
 use Rattle.instructions.specs.declared.Op.the-variants.{Set, Load}
@@ -12,9 +12,9 @@ use Rattle.program.specs.declared.opening.Opening.{Opening}
 use Rattle.program.specs.declared.opening.Opening.the-variants.{Then}
 use Rattle.program.specs.Openings.{around}
 use Rattle.program.specs.Bounds.{bound}
-use Rattle.labels.specs.Kinds.{LabelKind, Lawful, secrecy}
+use Rattle.labels.specs.Kinds.{LabelKind, Lawful, Rises, secrecy}
 use Rattle.labels.specs.Rules.{Sub, Solves, Smallest}
-use Rattle.labels.specs.Passes.{sweep, Rising}
+use Rattle.labels.specs.Passes.{sweep, onset, passes, Rising}
 use Rattle.labels.specs.Sets.{bits, sets}
 use Rattle.labels.specs.Plans.{labelsOf}
 
@@ -30,6 +30,10 @@ pub record Theory {L : Type 0} (K : LabelKind L) : Type 0 where
   pub rising : (tables entry : ℕ → L) (code : List Instruction) (S : ℕ → ℕ → L) → Rising K tables entry code S → Rising K tables entry code (sweep K tables [] 0 code S)
   -- where a pass changes nothing, the smallest solution is reached
   pub reached : (tables entry : ℕ → L) (code : List Instruction) (S : ℕ → ℕ → L) → Rising K tables entry code S → sweep K tables [] 0 code S ≡ S → Smallest K tables entry code S
+  -- with a bounded number of rises passes come to an end, and a smallest solution exists
+  pub exists : (most : ℕ) → Rises K most
+      → (registers used : ℕ) (tables entry : ℕ → L) (code : List Instruction) → ((r : ℕ) → registers ≤ r → entry r ≡ K .least) → ((p : ℕ) → p < length code → bound registers used (getD code p Again) ≡ true)
+      → Smallest K tables entry code (passes K tables code ((length code + 1) * (registers * most)) (onset K entry))
   -- there is one smallest solution at most
   pub unique : (tables entry : ℕ → L) (code : List Instruction) (S Z : ℕ → ℕ → L) → Smallest K tables entry code S → Smallest K tables entry code Z → S ≡ Z
   -- no move enters place 0

@@ -1,6 +1,6 @@
 // Where labels begin.
 ghost use mathlib.Core.Path.{_≡_};
-ghost use Rattle.labels.specs.Kinds.{Lawful, secrecy};
+ghost use Rattle.labels.specs.Kinds.{Lawful, Rises, secrecy};
 ghost use Rattle.labels.specs.Theorems.{Theory, Smallest-exists, Arms-by-hand};
 use program::header::Header;
 
@@ -9,6 +9,7 @@ use program::header::Header;
 pub fn at_start(header: &Header) -> u16
     ensures value { λ r. ⌜ r ≡ now (header .entry) .«secret_entry» ⌝ }
     ensures plain { λ _. ⌜ Lawful secrecy ⌝ }
+    ensures rises { λ _. ⌜ Rises secrecy 1 ⌝ }
     ensures theory { λ _. ⌜ Theory secrecy ⌝ }
     ensures exists { λ _. ⌜ Smallest-exists ⌝ }
     ensures arms { λ _. ⌜ Arms-by-hand ⌝ }

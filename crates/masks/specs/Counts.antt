@@ -2,6 +2,8 @@
 use mathlib.Core.Bool.{Bool, true, false}
 use mathlib.Core.List.{List, [], _∷_}
 use Prim.Native.Nat.{ℕ, suc}
+use Rattle.std.specs.declared.option.Option.{Option}
+use Rattle.std.specs.declared.option.Option.the-variants.{Some, None}
 use Rattle.program.specs.declared.opening.Opening.{Opening}
 use Rattle.program.specs.declared.opening.Marked.{Marked}
 
@@ -19,3 +21,8 @@ secretsOf (k ∷ ks) = more (k .label) (secretsOf ks)
 abbrev pub turned : Opening → List (Marked Bool) → List (Marked Bool)
 turned o [] = []
 turned o (k ∷ ks) = record { opening = o; label = k .label } ∷ ks
+
+-- the innermost opening, without its label
+abbrev pub bracket : List (Marked Bool) → Option Opening
+bracket [] = None
+bracket (k ∷ ks) = Some (k .opening)

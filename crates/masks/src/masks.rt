@@ -10,7 +10,7 @@ ghost use Rattle.labels.specs.Kinds.{secrecy};
 ghost use Rattle.labels.specs.Rules.{maskOf};
 ghost use Rattle.labels.specs.Passes.{opens};
 ghost use Rattle.labels.specs.Sets.{bits};
-ghost use Rattle.masks.specs.Counts.{secretsOf, turned};
+ghost use Rattle.masks.specs.Counts.{secretsOf, turned, bracket};
 use instructions::Instruction;
 use labels::marks::mark;
 use labels::sets::has;
@@ -64,7 +64,7 @@ impl Masks {
         requires { ⌜ length (opens secrecy (bits secret) (held (now self .openings)) place instruction) ≤ 8 ⌝ }
         ensures { λ _. ⌜ held (now (self .exit) .openings) ≡ opens secrecy (bits secret) (held (now (self .entry) .openings)) place instruction ⌝ }
     {
-        match (self.innermost(), instruction) {
+        match (self.bracket(), instruction) {
             (_, Instruction::If { condition }) => self.open(mark(
                 Opening::Then { place, condition },
                 has(secret, condition),
@@ -72,12 +72,9 @@ impl Masks {
             (_, Instruction::Repeat { .. }) => self.open(mark(Opening::Loop { place }, false)),
             (
                 Some(
-                    Marked {
-                        opening: Opening::Then {
-                            place: opened,
-                            condition,
-                        },
-                        ..
+                    Opening::Then {
+                        place: opened,
+                        condition,
                     },
                 ),
                 Instruction::Else,
@@ -86,25 +83,20 @@ impl Masks {
                 condition,
                 middle: place,
             }),
-            (
-                Some(
-                    Marked {
-                        opening: Opening::Then { .. } | Opening::Otherwise { .. },
-                        ..
-                    },
-                ),
-                Instruction::End,
-            ) => self.close(),
-            (
-                Some(
-                    Marked {
-                        opening: Opening::Loop { .. },
-                        ..
-                    },
-                ),
-                Instruction::Again,
-            ) => self.close(),
+            (Some(Opening::Then { .. } | Opening::Otherwise { .. }), Instruction::End) =>
+                self.close(),
+            (Some(Opening::Loop { .. }), Instruction::Again) => self.close(),
             _ => (),
+        }
+    }
+
+    // The innermost opening, without its label.
+    fn bracket(&self) -> Option<Opening>
+        ensures { λ r. ⌜ r ≡ bracket (held (now (self .entry) .openings)) ⌝ }
+    {
+        match self.innermost() {
+            Some(innermost) => Some(innermost.opening),
+            None => None,
         }
     }
 
