@@ -1,5 +1,6 @@
-// A memory with a layer on top, or with none.
-ghost use Rattle.layered.specs.Layers.{layered};
+// A memory with a layer on top that is chosen at run time, or with none.
+ghost use mathlib.Core.Path.{_≡_};
+ghost use Rattle.layered.specs.Layers.{layered, over, under};
 use full_scan::FullScan;
 use full_scan::FullScanMemory;
 use line::Line;
@@ -9,11 +10,43 @@ use memory::Mark;
 use memory::Memory;
 use program::refusal::Refusal;
 
+/// What may be put on a memory.
+#[derive(Clone, Copy)]
+pub enum Layer {
+    Scan,
+    /// An exponent above 6 counts as 6.
+    Line { exponent: u32 },
+}
+
+/// With lines of one mark, a memory is as it is with no layer.
 #[derive(Drop)]
 pub enum Layered<M> {
-    Plain(M),
     Scanned(FullScan<M>),
     Lined(Line<M>),
+}
+
+impl<M: Memory> Layered<M> {
+    /// With the layer on top, where one is given.
+    pub fn new(memory: M, layer: Option<Layer>) -> Layered<M>
+        ensures model { λ r. ⌜ layered (M·Memory .model) r ≡ over layer (M·Memory .model memory) ⌝ }
+        ensures below { λ r. ⌜ under r ≡ memory ⌝ }
+    {
+        match layer {
+            None => Layered::Lined(Line::new(memory, 0)),
+            Some(Layer::Scan) => Layered::Scanned(FullScan::new(memory)),
+            Some(Layer::Line { exponent }) => Layered::Lined(Line::new(memory, exponent)),
+        }
+    }
+
+    /// Gives back the memory under the layer.
+    pub fn into_below(self) -> M
+        ensures { λ r. ⌜ r ≡ under self ⌝ }
+    {
+        match self {
+            Layered::Scanned(memory) => memory.into_below(),
+            Layered::Lined(memory) => memory.into_below(),
+        }
+    }
 }
 
 pub impl<M: Memory> Memory for Layered<M> as LayeredMemory {
@@ -21,7 +54,6 @@ pub impl<M: Memory> Memory for Layered<M> as LayeredMemory {
 
     fn read(&mut self, base: usize, len: usize, off: usize) -> Result<u32, Refusal> {
         match self {
-            Layered::Plain(memory) => memory.read(base, len, off),
             Layered::Scanned(memory) => memory.read(base, len, off),
             Layered::Lined(memory) => memory.read(base, len, off),
         }
@@ -29,7 +61,6 @@ pub impl<M: Memory> Memory for Layered<M> as LayeredMemory {
 
     fn write(&mut self, base: usize, len: usize, off: usize, word: u32) -> Result<(), Refusal> {
         match self {
-            Layered::Plain(memory) => memory.write(base, len, off, word),
             Layered::Scanned(memory) => memory.write(base, len, off, word),
             Layered::Lined(memory) => memory.write(base, len, off, word),
         }
@@ -37,7 +68,6 @@ pub impl<M: Memory> Memory for Layered<M> as LayeredMemory {
 
     fn size(&self) -> usize {
         match self {
-            Layered::Plain(memory) => memory.size(),
             Layered::Scanned(memory) => memory.size(),
             Layered::Lined(memory) => memory.size(),
         }
@@ -45,7 +75,6 @@ pub impl<M: Memory> Memory for Layered<M> as LayeredMemory {
 
     fn free(&self) -> usize {
         match self {
-            Layered::Plain(memory) => memory.free(),
             Layered::Scanned(memory) => memory.free(),
             Layered::Lined(memory) => memory.free(),
         }
@@ -53,7 +82,6 @@ pub impl<M: Memory> Memory for Layered<M> as LayeredMemory {
 
     fn cost(&self, access: Access, len: usize) -> usize {
         match self {
-            Layered::Plain(memory) => memory.cost(access, len),
             Layered::Scanned(memory) => memory.cost(access, len),
             Layered::Lined(memory) => memory.cost(access, len),
         }
@@ -61,7 +89,6 @@ pub impl<M: Memory> Memory for Layered<M> as LayeredMemory {
 
     fn hides(&self) -> bool {
         match self {
-            Layered::Plain(memory) => memory.hides(),
             Layered::Scanned(memory) => memory.hides(),
             Layered::Lined(memory) => memory.hides(),
         }
@@ -69,7 +96,6 @@ pub impl<M: Memory> Memory for Layered<M> as LayeredMemory {
 
     fn marks(&self) -> usize {
         match self {
-            Layered::Plain(memory) => memory.marks(),
             Layered::Scanned(memory) => memory.marks(),
             Layered::Lined(memory) => memory.marks(),
         }
@@ -77,7 +103,6 @@ pub impl<M: Memory> Memory for Layered<M> as LayeredMemory {
 
     fn mark(&self, j: usize) -> Option<Mark> {
         match self {
-            Layered::Plain(memory) => memory.mark(j),
             Layered::Scanned(memory) => memory.mark(j),
             Layered::Lined(memory) => memory.mark(j),
         }
@@ -85,7 +110,6 @@ pub impl<M: Memory> Memory for Layered<M> as LayeredMemory {
 
     fn clear(&mut self) {
         match self {
-            Layered::Plain(memory) => memory.clear(),
             Layered::Scanned(memory) => memory.clear(),
             Layered::Lined(memory) => memory.clear(),
         }

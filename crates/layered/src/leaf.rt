@@ -1,4 +1,7 @@
 // A memory with cells of its own, flat or banked.
+ghost use mathlib.Core.Path.{_≡_};
+ghost use Rattle.std.specs.Of.Vec.{vec-items};
+ghost use Rattle.std.specs.Vec.{made};
 ghost use Rattle.layered.specs.Leaves.{leafModel};
 use banked::Banked;
 use banked::BankedMemory;
@@ -8,11 +11,32 @@ use memory::Access;
 use memory::Mark;
 use memory::Memory;
 use program::refusal::Refusal;
+use std::alloc::AllocError;
+use std::alloc::Global;
+
+/// The most cells of a flat memory that count.
+const MOST: usize = 65536;
 
 #[derive(Drop)]
 pub enum Leaf {
     Flat(Flat),
     Banked(Banked),
+}
+
+impl Leaf {
+    /// Gives the cells that count, in the order of their numbers.
+    pub fn into_cells(self, heap: Global) -> Result<Vec<u32>, AllocError>
+        ensures { λ r. ⌜ made r (λ cells. vec-items cells ≡ leafModel self .cells) ⌝ }
+    {
+        match self {
+            Leaf::Flat(memory) => {
+                let (mut cells, _) = memory.into_parts();
+                cells.truncate(MOST);
+                Ok(cells)
+            }
+            Leaf::Banked(memory) => memory.into_cells(heap),
+        }
+    }
 }
 
 pub impl Memory for Leaf as LeafMemory {
