@@ -1,0 +1,6 @@
+// Memories that are named by text, and calls to them.
+pub mod built;
+pub mod call;
+pub mod make;
+pub mod named;
+pub mod words;
