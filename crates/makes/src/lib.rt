@@ -3,4 +3,5 @@ pub mod built;
 pub mod call;
 pub mod make;
 pub mod named;
+pub mod shown;
 pub mod words;
