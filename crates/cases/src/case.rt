@@ -1,4 +1,8 @@
 // One case, as a line of a case file has it.
+ghost use mathlib.Core.Path.{_≡_};
+ghost use Prim.Native.Nat.{_≤_};
+ghost use Rattle.std.specs.Slices.{found};
+ghost use Rattle.cases.specs.Lines.{lineOf};
 
 /// The longest list that a case may ask for: longer than any that makes a difference.
 const LONGEST_LIST: usize = 1_000_000;
@@ -14,7 +18,9 @@ pub struct Case<'a> {
 
 impl<'a> Case<'a> {
     /// The case of a line, if the line is one.
-    pub fn parse(line: &'a str) -> Option<Case<'a>> {
+    pub fn parse(line: &'a str) -> Option<Case<'a>>
+        ensures { λ r. ⌜ found r (λ c. lineOf c ≡ now (line .entry)) ⌝ }
+    {
         let (before, expected) = line.split_once(" -> ")?;
         let (kind, rest) = before.split_once(' ')?;
         let (id, given) = rest.split_once(' ')?;
@@ -39,7 +45,9 @@ impl<'a> Case<'a> {
     }
 
     /// The length of a list that is given under a name.
-    pub fn length(self, name: &str) -> Option<usize> {
+    pub fn length(self, name: &str) -> Option<usize>
+        ensures { λ r. ⌜ found r (λ n. n ≤ 1000000) ⌝ }
+    {
         let length = self.value(name)?.parse::<usize>().ok()?;
         if length <= LONGEST_LIST {
             Some(length)

@@ -16,7 +16,7 @@ use Rattle.instructions.specs.declared.Instruction.{Instruction}
 use Rattle.instructions.specs.declared.Instruction.the-variants.{Again}
 use Rattle.program.specs.declared.header.Header.{Header}
 use Rattle.program.specs.declared.refusal.Reason.{Reason}
-use Rattle.program.specs.declared.refusal.Reason.the-variants.{NoHeader, BadHeader, BadLength, BadField, BadBracket, TooDeep, NoRoomForCode, NoRoomForImage, OutsideTable, NoRoomForMarks}
+use Rattle.program.specs.declared.refusal.Reason.the-variants.{NoHeader, BadHeader, BadLength, BadField, BadBracket, TooDeep, NoRoomForCode, NotASource, TooManySteps, NoRoomForResult, NoRoomForImage, MemoryTooSmall, NoFreeMarks, NoRoomForVisits, OutsideTable, NoRoomForMarks}
 use Rattle.program.specs.declared.refusal.Refusal.{Refusal}
 use Rattle.program.specs.Refusals.{unless, orElse}
 use Rattle.program.specs.Headers.{registersOf}
@@ -109,7 +109,13 @@ ofBrackets BadField = false
 ofBrackets BadBracket = true
 ofBrackets TooDeep = true
 ofBrackets NoRoomForCode = false
+ofBrackets NotASource = false
+ofBrackets TooManySteps = false
+ofBrackets NoRoomForResult = false
 ofBrackets NoRoomForImage = false
+ofBrackets MemoryTooSmall = false
+ofBrackets NoFreeMarks = false
+ofBrackets NoRoomForVisits = false
 ofBrackets OutsideTable = false
 ofBrackets NoRoomForMarks = false
 

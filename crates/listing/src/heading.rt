@@ -1,4 +1,7 @@
 // What the header says, in lines.
+ghost use mathlib.Core.Path.{_≡_};
+ghost use Rattle.std.specs.declared.option.Option.the-variants.{Some};
+ghost use Rattle.listing.specs.Wording.{labelText, tableText};
 use outline::names;
 use program::header::Header;
 use program::header::Table;
@@ -54,6 +57,8 @@ pub struct TableLine {
 }
 
 pub impl fmt::Display for TableLine as TableLineDisplay {
+    ghost shown = { λ l. Some (tableText (l .number) (l .first) (l .table)) };
+
     fn fmt<W: fmt::Write>(&self, f: &mut fmt::Formatter<W>) -> fmt::Result {
         let number = self.number;
         let first = self.first;
@@ -68,4 +73,10 @@ pub impl fmt::Display for TableLine as TableLineDisplay {
             "table t{number}: first cell {first}, length {length}, {label}"
         )
     }
+}
+
+fn label(secret: bool) -> &'static str
+    ensures { λ r. ⌜ now r ≡ labelText secret ⌝ }
+{
+    if secret { "secret" } else { "public" }
 }

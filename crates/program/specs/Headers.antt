@@ -14,6 +14,10 @@ abbrev pub registersOf : Kind → ℕ
 registersOf Source = 16
 registersOf Converted = 32
 
+abbrev pub isSource : Kind → Bool
+isSource Source = true
+isSource Converted = false
+
 -- the most instructions that a program may have
 abbrev pub longest : Kind → ℕ
 longest Source = 200

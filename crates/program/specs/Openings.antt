@@ -1,7 +1,7 @@
 -- What is open around each place, innermost first.
 use mathlib.Core.Bool.{Bool, true, false}
 use mathlib.Core.List.{List, [], _∷_}
-use Prim.Native.Nat.{ℕ, zero, suc}
+use Prim.Native.Nat.{ℕ, zero, suc, _<_}
 use Rattle.program.specs.declared.opening.Opening.{Opening}
 use Rattle.program.specs.declared.opening.Opening.the-variants.{Then, Otherwise, Loop}
 use Rattle.instructions.specs.declared.Instruction.{Instruction}
@@ -63,3 +63,19 @@ abbrev pub openedAt : Opening → ℕ
 openedAt (Then q a) = q
 openedAt (Otherwise q a m) = q
 openedAt (Loop q) = q
+
+-- what is open n places after place p, where these are open at it
+abbrev pub openAfter : List Opening → ℕ → List Instruction → ℕ → List Opening
+openAfter os p is zero = os
+openAfter os p [] (suc n) = os
+openAfter os p (i ∷ is) (suc n) = openAfter (past p i os) (suc p) is n
+
+-- the openings around place p, innermost first
+unfoldable pub around : List Instruction → ℕ → List Opening
+around code p = openAfter [] 0 code p
+
+-- an opening that lies before place p
+abbrev pub Before : ℕ → Opening → Type 0
+Before p (Then q a) = q < p
+Before p (Otherwise q a m) = (q < p) × (m < p)
+Before p (Loop q) = q < p

@@ -6,7 +6,7 @@ use Rattle.std.specs.declared.option.Option.the-variants.{Some, None}
 use Rattle.std.specs.declared.result.Result.{Result}
 use Rattle.std.specs.declared.result.Result.the-variants.{Ok, Err}
 use Rattle.program.specs.declared.refusal.Reason.{Reason}
-use Rattle.program.specs.declared.refusal.Reason.the-variants.{NoHeader, BadHeader, BadLength, BadField, BadBracket, TooDeep, NoRoomForCode, NoRoomForImage, OutsideTable, NoRoomForMarks}
+use Rattle.program.specs.declared.refusal.Reason.the-variants.{NoHeader, BadHeader, BadLength, BadField, BadBracket, TooDeep, NoRoomForCode, NotASource, TooManySteps, NoRoomForResult, NoRoomForImage, MemoryTooSmall, NoFreeMarks, NoRoomForVisits, OutsideTable, NoRoomForMarks}
 use Rattle.program.specs.declared.refusal.Refusal.{Refusal}
 
 abbrev pub numberOf : Reason → ℕ
@@ -17,7 +17,13 @@ numberOf BadField = 5
 numberOf BadBracket = 6
 numberOf TooDeep = 7
 numberOf NoRoomForCode = 8
+numberOf NotASource = 10
+numberOf TooManySteps = 14
+numberOf NoRoomForResult = 15
 numberOf NoRoomForImage = 16
+numberOf MemoryTooSmall = 21
+numberOf NoFreeMarks = 25
+numberOf NoRoomForVisits = 28
 numberOf OutsideTable = 30
 numberOf NoRoomForMarks = 31
 

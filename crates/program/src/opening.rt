@@ -21,6 +21,13 @@ pub enum Opening {
     },
 }
 
+/// An opening, with the label of its condition.
+#[derive(Clone, Copy)]
+pub struct Marked<L> {
+    pub opening: Opening,
+    pub label: L,
+}
+
 impl Opening {
     /// The place of the bracket that opened it.
     pub fn place(self) -> usize

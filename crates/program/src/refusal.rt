@@ -19,8 +19,20 @@ pub enum Reason {
     TooDeep = 7,
     /// An instruction list shorter than the program.
     NoRoomForCode = 8,
+    /// A program that is not a source where a source is asked for.
+    NotASource = 10,
+    /// A program whose most steps are above 1,000,000.
+    TooManySteps = 14,
+    /// A list shorter than the result that is written into it.
+    NoRoomForResult = 15,
     /// A byte list shorter than the image.
     NoRoomForImage = 16,
+    /// A memory smaller than the tables.
+    MemoryTooSmall = 21,
+    /// Most marks above what is free.
+    NoFreeMarks = 25,
+    /// A visit list shorter than the most steps.
+    NoRoomForVisits = 28,
     /// An access outside its table, or to a table that is not within the cells.
     OutsideTable = 30,
     /// An access that shows more marks than the seen list has room for.

@@ -1,0 +1,10 @@
+pub mod Solving
+pub mod Orders
+pub mod Starts
+pub mod Plain
+pub mod Bits
+pub mod Numbers
+pub mod Rows
+pub mod Passing
+pub mod Reckoning
+pub mod Proved

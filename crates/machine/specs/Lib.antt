@@ -1,0 +1,7 @@
+pub mod Words
+pub mod States
+pub mod Machine
+pub mod Nested
+pub mod Most
+pub mod Fits
+pub mod Programs

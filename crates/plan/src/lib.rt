@@ -1,0 +1,3 @@
+// The plan: the smallest sets of secret registers, a number for each place.
+mod flow;
+pub mod plan;

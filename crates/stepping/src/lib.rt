@@ -1,0 +1,3 @@
+// One step of a run.
+pub mod access;
+pub mod step;
