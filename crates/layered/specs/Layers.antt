@@ -1,4 +1,5 @@
 -- A memory with a layer on top that is chosen at run time, or with none.
+use mathlib.Core.Bool.{Bool, true, false}
 use Prim.Native.Nat.{min}
 use Rattle.std.specs.declared.option.Option.{Option}
 use Rattle.std.specs.declared.option.Option.the-variants.{Some, None}
@@ -8,17 +9,14 @@ use Rattle.line.specs.Line.{lineOver}
 use Rattle.layered.specs.declared.layer.Layer.{Layer}
 use Rattle.layered.specs.declared.layer.Layer.the-variants.{Scan, Line}
 use Rattle.layered.specs.declared.layer.Layered.{Layered}
-use Rattle.layered.specs.declared.layer.Layered.the-variants.{Scanned, Lined}
+
+abbrev pub scannedIf : Bool → Description → Description
+scannedIf true d = scanOver d
+scannedIf false d = d
 
 -- what it is, by what the memory below is
 abbrev pub layered : {M : Type 0} → (M → Description) → Layered M → Description
-layered model (Scanned m) = scanOver (model (m .below))
-layered model (Lined m) = lineOver (m .exponent) (model (m .below))
-
--- the memory below
-abbrev pub under : {M : Type 0} → Layered M → M
-under (Scanned m) = m .below
-under (Lined m) = m .below
+layered model m = scannedIf (m .scanned) (lineOver (m .line .exponent) (model (m .line .below)))
 
 -- what a layer makes of a memory
 abbrev pub over : Option Layer → Description → Description

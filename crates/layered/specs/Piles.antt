@@ -3,7 +3,7 @@ use Rattle.memory.specs.Description.{Description}
 use Rattle.layered.specs.declared.layer.Layered.{Layered}
 use Rattle.layered.specs.declared.leaf.Leaf.{Leaf}
 use Rattle.layered.specs.declared.pile.Layers.{Layers}
-use Rattle.layered.specs.Layers.{layered, over, under}
+use Rattle.layered.specs.Layers.{layered, over}
 use Rattle.layered.specs.Leaves.{leafModel}
 
 abbrev pub Pile : Type 0
@@ -13,7 +13,7 @@ abbrev pub pileModel : Pile → Description
 pileModel = layered (layered (layered (layered leafModel)))
 
 abbrev pub leafOf : Pile → Leaf
-leafOf p = under (under (under (under p)))
+leafOf p = p .line .below .line .below .line .below .line .below
 
 -- what the layers make of a leaf
 abbrev pub piled : Layers → Description → Description

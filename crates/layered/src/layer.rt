@@ -1,8 +1,9 @@
 // A memory with a layer on top that is chosen at run time, or with none.
 ghost use mathlib.Core.Path.{_≡_};
-ghost use Rattle.layered.specs.Layers.{layered, over, under};
-use full_scan::FullScan;
-use full_scan::FullScanMemory;
+ghost use Rattle.layered.specs.Layers.{layered, over};
+use full_scan::scan_cost;
+use full_scan::scan_read;
+use full_scan::scan_write;
 use line::Line;
 use line::LineMemory;
 use memory::Access;
@@ -18,34 +19,44 @@ pub enum Layer {
     Line { exponent: u32 },
 }
 
-/// With lines of one mark, a memory is as it is with no layer.
+/// With lines of one mark, a memory is as it is with no layer. One memory is kept for every layer, and
+/// not one for each: a type that held one for each would double with every layer of a pile.
 #[derive(Drop)]
-pub enum Layered<M> {
-    Scanned(FullScan<M>),
-    Lined(Line<M>),
+pub struct Layered<M> {
+    line: Line<M>,
+    scanned: bool,
 }
 
 impl<M: Memory> Layered<M> {
     /// With the layer on top, where one is given.
     pub fn new(memory: M, layer: Option<Layer>) -> Layered<M>
         ensures model { λ r. ⌜ layered (M·Memory .model) r ≡ over layer (M·Memory .model memory) ⌝ }
-        ensures below { λ r. ⌜ under r ≡ memory ⌝ }
+        ensures below { λ r. ⌜ r .line .below ≡ memory ⌝ }
     {
         match layer {
-            None => Layered::Lined(Line::new(memory, 0)),
-            Some(Layer::Scan) => Layered::Scanned(FullScan::new(memory)),
-            Some(Layer::Line { exponent }) => Layered::Lined(Line::new(memory, exponent)),
+            None => Layered {
+                line: Line::new(memory, 0),
+                scanned: false,
+            },
+            Some(layer) => match layer {
+                Layer::Scan => Layered {
+                    line: Line::new(memory, 0),
+                    scanned: true,
+                },
+                Layer::Line { exponent } => Layered {
+                    line: Line::new(memory, exponent),
+                    scanned: false,
+                },
+            },
         }
     }
 
     /// Gives back the memory under the layer.
     pub fn into_below(self) -> M
-        ensures { λ r. ⌜ r ≡ under self ⌝ }
+        ensures { λ r. ⌜ r ≡ self .line .below ⌝ }
     {
-        match self {
-            Layered::Scanned(memory) => memory.into_below(),
-            Layered::Lined(memory) => memory.into_below(),
-        }
+        let Layered { line, scanned: _ } = self;
+        line.into_below()
     }
 }
 
@@ -53,65 +64,50 @@ pub impl<M: Memory> Memory for Layered<M> as LayeredMemory {
     ghost model = { λ m. layered (M·Memory .model) m };
 
     fn read(&mut self, base: usize, len: usize, off: usize) -> Result<u32, Refusal> {
-        match self {
-            Layered::Scanned(memory) => memory.read(base, len, off),
-            Layered::Lined(memory) => memory.read(base, len, off),
+        if self.scanned {
+            scan_read(&mut self.line, base, len, off)
+        } else {
+            self.line.read(base, len, off)
         }
     }
 
     fn write(&mut self, base: usize, len: usize, off: usize, word: u32) -> Result<(), Refusal> {
-        match self {
-            Layered::Scanned(memory) => memory.write(base, len, off, word),
-            Layered::Lined(memory) => memory.write(base, len, off, word),
+        if self.scanned {
+            scan_write(&mut self.line, base, len, off, word)
+        } else {
+            self.line.write(base, len, off, word)
         }
     }
 
     fn size(&self) -> usize {
-        match self {
-            Layered::Scanned(memory) => memory.size(),
-            Layered::Lined(memory) => memory.size(),
-        }
+        self.line.size()
     }
 
     fn free(&self) -> usize {
-        match self {
-            Layered::Scanned(memory) => memory.free(),
-            Layered::Lined(memory) => memory.free(),
-        }
+        self.line.free()
     }
 
     fn cost(&self, access: Access, len: usize) -> usize {
-        match self {
-            Layered::Scanned(memory) => memory.cost(access, len),
-            Layered::Lined(memory) => memory.cost(access, len),
+        if self.scanned {
+            scan_cost(&self.line, access, len)
+        } else {
+            self.line.cost(access, len)
         }
     }
 
     fn hides(&self) -> bool {
-        match self {
-            Layered::Scanned(memory) => memory.hides(),
-            Layered::Lined(memory) => memory.hides(),
-        }
+        self.scanned || self.line.hides()
     }
 
     fn marks(&self) -> usize {
-        match self {
-            Layered::Scanned(memory) => memory.marks(),
-            Layered::Lined(memory) => memory.marks(),
-        }
+        self.line.marks()
     }
 
     fn mark(&self, j: usize) -> Option<Mark> {
-        match self {
-            Layered::Scanned(memory) => memory.mark(j),
-            Layered::Lined(memory) => memory.mark(j),
-        }
+        self.line.mark(j)
     }
 
     fn clear(&mut self) {
-        match self {
-            Layered::Scanned(memory) => memory.clear(),
-            Layered::Lined(memory) => memory.clear(),
-        }
+        self.line.clear();
     }
 }

@@ -1,8 +1,9 @@
-use Rattle.full_scan.proofs.Costs.{scan-lawful}
+use Rattle.line.specs.Line.{lineOver}
 use Rattle.line.proofs.Lines.{line-lawful}
-use Rattle.layered.specs.declared.layer.Layered.the-variants.{Scanned, Lined}
+use Rattle.layered.proofs.Scans.{scanned-lawful}
 use Rattle.layered.proofs.layer.LayeredMemory.the-impl.Needs as need
 
 pub lawful-law : need.lawful-law
-lawful-law g (Scanned m) = scan-lawful (g .M·Memory .model (m .below)) (g .M·Memory·met .lawful (m .below))
-lawful-law g (Lined m) = line-lawful (m .exponent) (g .M·Memory .model (m .below)) (g .M·Memory·met .lawful (m .below))
+lawful-law g m =
+    let d = g .M·Memory .model (m .line .below) in
+    scanned-lawful (m .scanned) (lineOver (m .line .exponent) d) (line-lawful (m .line .exponent) d (g .M·Memory·met .lawful (m .line .below)))
