@@ -23,6 +23,10 @@ pub getD-cellsOf : (banks : List (List ℕ)) (c : ℕ) → c < 1024 → getD (ce
 unfolding cellsOf
 getD-cellsOf banks c h = getD-map-counting (wordAt banks) 0 1024 c c 0 h (omega arith)
 
+pub in-order : (banks : List (List ℕ)) (n : ℕ) → n ≡ 1024 → map (wordAt banks) (counting 0 n) ≡ cellsOf banks
+unfolding cellsOf
+in-order banks n e = ap (λ m. map (wordAt banks) (counting 0 m)) e
+
 -- the banks with another word at cell c
 abbrev pub put : List (List ℕ) → ℕ → ℕ → List (List ℕ)
 put banks c word = set banks (c % 4) (set (getD banks (c % 4) []) (c / 4) word)

@@ -4,6 +4,7 @@ ghost use mathlib.Core.List.{[]};
 ghost use Prim.Native.Nat.{ℕ, _<_};
 ghost use lib.ListN.{length, getD, replicate};
 ghost use Rattle.std.specs.Of.Vec.{vec-items};
+ghost use Rattle.std.specs.Vec.{made};
 ghost use Rattle.banked.specs.Banks.{cellsOf, banked};
 use leaf::SeenList;
 use memory::Access;
@@ -11,6 +12,8 @@ use memory::Mark;
 use memory::Memory;
 use memory::denial::denial;
 use program::refusal::Refusal;
+use std::alloc::AllocError;
+use std::alloc::Global;
 
 /// How many cells there are.
 const CELLS: usize = 1024;
@@ -45,6 +48,24 @@ impl Banked {
         let Banked { banks: _, seen } = self;
         seen.into_list()
     }
+
+    /// Gives the cells, in the order of their numbers.
+    pub fn into_cells(self, heap: Global) -> Result<Vec<u32>, AllocError>
+        ensures { λ r. ⌜ made r (λ cells. vec-items cells ≡ cellsOf (self .banks)) ⌝ }
+    {
+        in_order(heap, &self.banks)
+    }
+}
+
+// The cells of the banks, in the order of their numbers.
+fn in_order(heap: Global, banks: &[[u32; 256]; 4]) -> Result<Vec<u32>, AllocError>
+    ensures { λ r. ⌜ made r (λ cells. vec-items cells ≡ cellsOf (now (banks .entry))) ⌝ }
+{
+    let mut cells = Vec::with_capacity(heap, CELLS)?;
+    for cell in 0..CELLS {
+        cells.push(banks[cell % 4][cell / 4])?;
+    }
+    Ok(cells)
 }
 
 pub impl Memory for Banked as BankedMemory {

@@ -4,7 +4,8 @@ ghost use mathlib.Core.Bool.{cond};
 ghost use Prim.Native.Nat.{_+_, _*_, _≤_};
 ghost use lib.ListN.{getD, set};
 ghost use Rattle.memory.specs.declared.Access.the-variants.{Read, Write};
-ghost use Rattle.memory.specs.Description.{free, marked};
+ghost use Rattle.memory.specs.Accesses.{readAnswer, readAfter, writeAnswer, writeAfter};
+ghost use Rattle.memory.specs.Description.{held, free, marked};
 ghost use Rattle.memory.specs.Laws.{Within};
 ghost use Rattle.full_scan.specs.Scan.{scanOver, turns, turnCost};
 use memory::Access;
@@ -70,24 +71,63 @@ fn write_all<M: Memory>(below: &mut M, base: usize, len: usize, off: usize, word
     }
 }
 
+/// How many marks an access through a full scan of a memory shows.
+pub fn scan_cost<M: Memory>(below: &M, access: Access, len: usize) -> usize
+    ensures { λ r. ⌜ r ≡ held (len * turnCost (model (now (below .entry)) .rules .cost) access len) ⌝ }
+{
+    let read = below.cost(Access::Read, len);
+    let turn = match access {
+        Access::Read => read,
+        Access::Write => read.saturating_add(below.cost(Access::Write, len)),
+    };
+    len.saturating_mul(turn).min(1_000_001)
+}
+
+/// Reads through a full scan of a memory.
+pub fn scan_read<M: Memory>(
+    below: &mut M,
+    base: usize,
+    len: usize,
+    off: usize,
+) -> Result<u32, Refusal>
+    ensures answer { λ r. ⌜ r ≡ readAnswer (scanOver (model (now (below .entry)))) base len off ⌝ }
+    ensures after { λ _. ⌜ scanOver (model (now (below .exit))) ≡ readAfter (scanOver (model (now (below .entry)))) base len off ⌝ }
+{
+    let cost = scan_cost(below, Access::Read, len);
+    if let Some(why) = denial(below.size(), base, len, off, cost, below.free()) {
+        return Err(why);
+    }
+    Ok(read_all(below, base, len, off))
+}
+
+/// Writes through a full scan of a memory.
+pub fn scan_write<M: Memory>(
+    below: &mut M,
+    base: usize,
+    len: usize,
+    off: usize,
+    word: u32,
+) -> Result<(), Refusal>
+    ensures answer { λ r. ⌜ r ≡ writeAnswer (scanOver (model (now (below .entry)))) base len off ⌝ }
+    ensures after { λ _. ⌜ scanOver (model (now (below .exit))) ≡ writeAfter (scanOver (model (now (below .entry)))) base len off word ⌝ }
+{
+    let cost = scan_cost(below, Access::Write, len);
+    if let Some(why) = denial(below.size(), base, len, off, cost, below.free()) {
+        return Err(why);
+    }
+    write_all(below, base, len, off, word);
+    Ok(())
+}
+
 pub impl<M: Memory> Memory for FullScan<M> as FullScanMemory {
     ghost model = { λ m. scanOver (M·Memory .model (m .below)) };
 
     fn read(&mut self, base: usize, len: usize, off: usize) -> Result<u32, Refusal> {
-        let cost = self.cost(Access::Read, len);
-        if let Some(why) = denial(self.size(), base, len, off, cost, self.free()) {
-            return Err(why);
-        }
-        Ok(read_all(&mut self.below, base, len, off))
+        scan_read(&mut self.below, base, len, off)
     }
 
     fn write(&mut self, base: usize, len: usize, off: usize, word: u32) -> Result<(), Refusal> {
-        let cost = self.cost(Access::Write, len);
-        if let Some(why) = denial(self.size(), base, len, off, cost, self.free()) {
-            return Err(why);
-        }
-        write_all(&mut self.below, base, len, off, word);
-        Ok(())
+        scan_write(&mut self.below, base, len, off, word)
     }
 
     fn size(&self) -> usize {
@@ -99,12 +139,7 @@ pub impl<M: Memory> Memory for FullScan<M> as FullScanMemory {
     }
 
     fn cost(&self, access: Access, len: usize) -> usize {
-        let read = self.below.cost(Access::Read, len);
-        let turn = match access {
-            Access::Read => read,
-            Access::Write => read.saturating_add(self.below.cost(Access::Write, len)),
-        };
-        len.saturating_mul(turn).min(1_000_001)
+        scan_cost(&self.below, access, len)
     }
 
     fn hides(&self) -> bool {

@@ -4,13 +4,13 @@ use native.Mathlib.Omega.{arith}
 use Rattle.memory.specs.declared.Access.the-variants.{Read, Write}
 use Rattle.full_scan.specs.Scan.{turnCost}
 use Rattle.full_scan.proofs.Costs.{stopped}
-use Rattle.full_scan.proofs.FullScanMemory.cost.Needs as need
-use Rattle.full_scan.proofs.FullScanMemory.cost.Needs.{in-Read, in-Write}
+use Rattle.full_scan.proofs.scan_cost.Needs as need
+use Rattle.full_scan.proofs.scan_cost.Needs.{in-Read, in-Write}
 
 pub returns : need.returns
 returns g c =
     let len = c .args .len in
-    let cost = g .M·Memory .model (c .args .self .now .below) .rules .cost in
+    let cost = g .M·Memory .model (c .args .below .now) .rules .cost in
     let turn : c .match-access .turn ≡ min (turnCost cost (c .args .access) len) 18446744073709551615 =
     elim (c .match-access .came) [
       | in-Read w ↦ (let t : turnCost cost (c .args .access) len ≡ cost Read len = ap (λ k. turnCost cost k len) (w .in-Read .is) in omega arith)

@@ -1,0 +1,3 @@
+pub mod Layers
+pub mod Leaves
+pub mod Piles

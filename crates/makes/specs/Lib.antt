@@ -1,0 +1,3 @@
+pub mod Makes
+pub mod Calls
+pub mod Begun
