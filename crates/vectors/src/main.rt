@@ -1,7 +1,7 @@
 // Runs case files and prints how many of their cases agree.
 use cases::named::Named;
 use cases::named::NamedDisplay;
-use cases::runner;
+use cases::case;
 use std::env;
 use std::error::AnyError;
 use std::fs;
@@ -19,7 +19,7 @@ fn text_of(rt: &LibcRuntime, path: &str) -> Result<String, AnyError> {
 
 fn run_file(rt: &LibcRuntime, room: &mut Room, path: &str) -> Result<Tally, AnyError> {
     let text = text_of(rt, path)?;
-    let report = runner::run(rt.alloc(), room, text.as_str())?;
+    let report = case::run(rt.alloc(), room, text.as_str())?;
     let name = Path::new(path).file_stem().unwrap_or(path);
     rt.print(Named {
         name,
