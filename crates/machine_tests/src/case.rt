@@ -50,14 +50,10 @@ pub fn answer(heap: Global, case: &Case) -> Result<(Answer, Vec<Visit>), AllocEr
     let list = vec![in heap; Instruction::End; 16]?;
     let cells = vec![in heap; 77u32; case.cells]?;
     let seen = vec![in heap; 0u32; case.marks]?;
-    let mut visits = vec![
-        in heap;
-        Visit {
-            place: 9999,
-            choice: 9,
-        };
-        case.visits
-    ]?;
+    let mut visits = vec![in heap; Visit {
+        place: 9999,
+        choice: 9,
+    }; case.visits]?;
     let mut memory = Flat::new(cells, seen);
     let mut entry = [0; 16];
     entry[1] = case.word;

@@ -27,6 +27,9 @@ use Rattle.run.specs.declared.Outcome.{Outcome}
 abbrev pub visitAt : ℕ → ℕ → Visit
 visitAt p c = record { place = p; choice = c }
 
+abbrev pub outcomeOf : List ℕ → ℕ → ℕ → Option ℕ → Outcome
+outcomeOf registers steps marks fault = record { registers = registers; steps = steps; marks = marks; fault = fault }
+
 -- the visits of a trace, oldest first
 abbrev pub visitsOf : List Event → List Visit
 visitsOf [] = []
