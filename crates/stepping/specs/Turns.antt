@@ -26,6 +26,7 @@ use Rattle.windows.specs.Windows.{noWindow}
 -- a load into register x of offset i of a window: the registers r and the memory d, the move m, the
 -- registers and the memory then
 module _ (p : ℕ) (r : List ℕ) (d : Description) (m : Move) (r′ : List ℕ) (d′ : Description) where
+  -- in range it is read and marked; otherwise nothing changes
   abbrev pub Loaded : ℕ → ℕ → Window → Type 0
   Loaded x i w =
       (i < w .length → Goes (p + 1) 0 m × (r′ ≡ set r x (held (d .cells) (w .first + i))) × (d′ ≡ marked d (d .cells) (d .rules .shows Read (w .first) (w .length) i)))
@@ -33,6 +34,7 @@ module _ (p : ℕ) (r : List ℕ) (d : Description) (m : Move) (r′ : List ℕ)
 
 -- a store of a word at offset i of a window
 module _ (p : ℕ) (d : Description) (m : Move) (d′ : Description) where
+  -- in range it is written and marked; otherwise nothing changes
   abbrev pub Stored : ℕ → ℕ → Window → Type 0
   Stored word i w =
       (i < w .length → Goes (p + 1) 0 m × (d′ ≡ marked d (set (d .cells) (w .first + i) word) (d .rules .shows Write (w .first) (w .length) i)))
