@@ -20,6 +20,8 @@ use Rattle.counting.specs.declared.part.Part.{Part}
 abbrev pub Sum : Price → List Instruction → ℕ → Type 0
 Sum w code n = (b : Block (Unit {0})) × (flat b [] ≡ code) × (n ≡ hold (mostOf w b))
 
+-- an open bracket: what was counted before it, what its first arm counts with the step of the else
+-- after it, and how often it goes round
 abbrev pub part : ℕ → ℕ → ℕ → Part
 part before least rounds = record { before = before; least = least; rounds = rounds }
 

@@ -24,6 +24,7 @@ Jumps code j p Again is = Unit {0}
 abbrev pub Resolved : List Instruction → List ℕ → Type 0
 Resolved code js = (p : ℕ) (i : Instruction) (is : List Instruction) → drop p code ≡ i ∷ is → Jumps code (getD js p 0) p i is
 
+-- where an if that fails, its else and a repeat without rounds go
 abbrev pub closer : ℕ → ℕ → ℕ → Closer
 closer o c a = record { other = o; close = c; after = a }
 

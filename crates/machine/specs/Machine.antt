@@ -141,10 +141,11 @@ module _ (tables : List Table) (code : List Instruction) where
   steps zero c = c
   steps (suc n) c = steps n (next c)
 
--- a run begins at place 0 with the entry registers, all others 0, and the memory's cells
+-- a run begins with the entry registers, all others 0, and the memory's cells
 abbrev pub first : List ℕ → List ℕ → State
 first entry cells = record { registers = held entry; cells = held cells; trace = [] }
 
+-- at place 0, inside no repeat
 abbrev pub start : List ℕ → List ℕ → Conf
 start entry cells = go 0 [] (first entry cells)
 

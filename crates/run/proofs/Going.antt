@@ -9,6 +9,7 @@ use lib.Dec.{ltb, leb}
 use lib.ListN.{length, getD, set, drop, length-append}
 use Rattle.std.proofs.shelf.Lists.{append-nil, append-assoc, getD-map, drop-more, set-at, length-push}
 use Rattle.std.proofs.shelf.Tests.{lt-ltb, leb-true, leb-false, eq-eqb, ne-eqb}
+use Rattle.std.specs.declared.option.Option.{Option}
 use Rattle.std.specs.declared.option.Option.the-variants.{None}
 use Rattle.instructions.specs.declared.Op.{Op}
 use Rattle.instructions.specs.declared.Op.the-variants.{Set, Pick, Load, Store}
@@ -44,7 +45,7 @@ use Rattle.windows.specs.Windows.{noWindow, windowOf, Laid}
 use Rattle.windows.proofs.Laying.{within-all}
 use Rattle.stepping.specs.Turns.{Allowed, ReadyOp, Ready}
 use Rattle.run.specs.declared.Outcome.{Outcome}
-use Rattle.run.specs.Run.{visitAt, visitsOf, marksOf, faultOf, finish, Runnable, Ended, ReadNested}
+use Rattle.run.specs.Run.{visitAt, outcomeOf, visitsOf, marksOf, faultOf, finish, Runnable, Ended, ReadNested}
 use Rattle.run.proofs.Steps.{state, Stepped}
 
 count-visits : (t : List Event) → length (visitsOf t) ≡ count t
@@ -99,8 +100,8 @@ module _ {tables : List Table} {code : List Instruction} {entry : List ℕ} {d0 
       }
 
   pub kept-more : {made p : ℕ} {fs : List OpenRepeat} {r : List ℕ} {d : Description} {vs : List Visit} {t : List Event} {m : Move} {fs′ : List OpenRepeat} {r′ : List ℕ} {d′ : Description}
-      → made < length vs0 → Kept tables code entry d0 vs0 made d vs t → (s : Stepped tables code p fs r d t m fs′ r′ d′) → Kept tables code entry d0 vs0 (made + 1) d′ (set vs made (visitAt p (m .choice))) (s .trace)
-  kept-more {made = made} {p = p} {t = t} {m = m} h k s =
+      → made < length vs0 → Kept tables code entry d0 vs0 made d vs t → (s : Stepped tables code p fs r d t m fs′ r′ d′) → {v : Visit} → v ≡ visitAt p (m .choice) → Kept tables code entry d0 vs0 (made + 1) d′ (set vs made v) (s .trace)
+  kept-more {made = made} {p = p} {vs = vs} {t = t} {m = m} h k s e =
       let P : Rules → Type 0 = λ u. marksOf tables (u .shows) (s .trace) ≡ marksOf tables (u .shows) t ++ s .new in
       let Q : Rules → Type 0 = λ u. weigh (markPrice (u .cost) tables) (s .trace) ≡ weigh (markPrice (u .cost) tables) t + length (s .new) in
       let em : P (d0 .rules) = subst P (k .rules) (s .marks) in
@@ -113,7 +114,7 @@ module _ {tables : List Table} {code : List Instruction} {entry : List ℕ} {d0 
         seen = s .seen ∙ (ap (λ l. l ++ s .new) (k .seen) ∙ (append-assoc (d0 .seen) ml (s .new) ∙ ap (λ l. d0 .seen ++ l) (sym em)));
         weighed = ap length em ∙ (length-append ml (s .new) ∙ (ap (λ n. n + length (s .new)) (k .weighed) ∙ sym ew));
         counts = s .counts ∙ (ap suc (k .counts) ∙ sym (add-one made));
-        visits = ap (λ l. set l made v) (k .visits) ∙ (put-visit (visitsOf t) vs0 made v (count-visits t ∙ k .counts) h ∙ ap (λ l. l ++ drop (made + 1) vs0) (sym (s .visits)));
+        visits = ap (set vs made) e ∙ ap (λ l. set l made v) (k .visits) ∙ (put-visit (visitsOf t) vs0 made v (count-visits t ∙ k .counts) h ∙ ap (λ l. l ++ drop (made + 1) vs0) (sym (s .visits)));
       }
 
   -- the list of marks only grows
@@ -199,12 +200,12 @@ module _ {tables : List Table} {code : List Instruction} {entry : List ℕ} {d0 
       pub turn-may : {i : Instruction} {is : List Instruction} → p < length code → drop p code ≡ i ∷ is → Able (i ∷ is) fs
       turn-may h g = subst (λ (l : List Instruction). Able l fs) g (turn-able h .0)
 
-      pub turn-more : {m : Move} {fs′ : List OpenRepeat} {r′ : List ℕ} {d′ : Description} → p < length code → (m .choice ≡ 3 → ⊥) → Stepped tables code p fs r d (a .trace) m fs′ r′ d′
-          → At tables code entry d0 vs0 (made + 1) (m .place) fs′ r′ d′ (set vs made (visitAt p (m .choice)))
-      turn-more {m = m} {fs′ = fs′} {r′ = r′} {d′ = d′} h n s = record {
+      pub turn-more : {m : Move} {fs′ : List OpenRepeat} {r′ : List ℕ} {d′ : Description} → p < length code → (m .choice ≡ 3 → ⊥) → Stepped tables code p fs r d (a .trace) m fs′ r′ d′ → {v : Visit} → v ≡ visitAt p (m .choice)
+          → At tables code entry d0 vs0 (made + 1) (m .place) fs′ r′ d′ (set vs made v)
+      turn-more {m = m} {fs′ = fs′} {r′ = r′} {d′ = d′} h n s e = record {
         trace = s .trace;
         conf = after ∙ (s .goes ∙ ap (λ b. cond b (stop p (state r′ (d′ .cells) (s .trace))) (go (m .place) fs′ (state r′ (d′ .cells) (s .trace)))) (ne-eqb (m .choice) 3 n));
-        kept = kept-more (turn-room h) (a .kept) s;
+        kept = kept-more (turn-room h) (a .kept) s e;
         wide = s .long ∙ a .wide;
       }
 
@@ -220,9 +221,13 @@ module _ {tables : List Table} {code : List Instruction} {entry : List ℕ} {d0 
           finished tables code (nest .0) (nest .1) (nest .2) (first entry (d0 .cells)) made (mostSteps code) (go p fs (state r (d .cells) (a .trace))) (a .conf) (over-at-end code p fs (state r (d .cells) (a .trace)) h) (steps-left tables code d0 (length vs0) nest al)
 
     -- the outcome, at the end or at a fault
-    pub outcome : {made : ℕ} {d : Description} {vs : List Visit} {t : List Event} (r : List ℕ) (o : Outcome) → Kept tables code entry d0 vs0 made d vs t → stateOf (finish tables code entry (d0 .cells)) ≡ state r (d .cells) t
-        → o .registers ≡ r → length r ≡ 32 → o .steps ≡ made → o .marks ≡ length (d .seen) - length (d0 .seen) → o .fault ≡ faultOf (finish tables code entry (d0 .cells)) → Ended tables code (finish tables code entry (d0 .cells)) d0 d vs0 vs o
-    outcome {made = made} {d = d} {t = t} r o k e g1 l g2 g3 g4 =
+    pub outcome : {made marks : ℕ} {fault : Option ℕ} {d : Description} {vs : List Visit} {t : List Event} (r : List ℕ) (o : Outcome) → o ≡ outcomeOf r made marks fault → Kept tables code entry d0 vs0 made d vs t → stateOf (finish tables code entry (d0 .cells)) ≡ state r (d .cells) t
+        → length r ≡ 32 → marks ≡ length (d .seen) - length (d0 .seen) → fault ≡ faultOf (finish tables code entry (d0 .cells)) → Ended tables code (finish tables code entry (d0 .cells)) d0 d vs0 vs o
+    outcome {made = made} {d = d} {t = t} r o q k e l g3′ g4′ =
+        let g1 : o .registers ≡ r = ap (λ x. x .registers) q in
+        let g2 : o .steps ≡ made = ap (λ x. x .steps) q in
+        let g3 : o .marks ≡ length (d .seen) - length (d0 .seen) = ap (λ x. x .marks) q ∙ g3′ in
+        let g4 : o .fault ≡ faultOf (finish tables code entry (d0 .cells)) = ap (λ x. x .fault) q ∙ g4′ in
         let c = finish tables code entry (d0 .cells) in
         let M = marksOf tables (d0 .rules .shows) in
         let w = markPrice (d0 .rules .cost) tables in

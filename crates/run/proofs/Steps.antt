@@ -213,18 +213,18 @@ module _ (tables : List Table) (code : List Instruction) where
         (cases-lt (held r a) (lengthOf tables b))
     by-op (Store x a b) h f y g e =
         let w = laid b (f .2) in
-        let g′ : Stored p r d m r′ d′ x (held r a) (windowOf tables b) = subst (Stored p r d m r′ d′ x (held r a)) w g in
+        let g′ : Stored p d m d′ (held r x) (held r a) (windowOf tables b) = subst (Stored p d m d′ (held r x) (held r a)) w (g .0) in
         let y′ : Allowed d Write (held r a) (windowOf tables b) = subst (Allowed d Write (held r a)) w y in
         ⊎-elim
         (λ (o : held r a < lengthOf tables b).
         let k = g′ .0 o in
         let z = y′ o in
-        carry p fs r d t (Do (Store x a b)) is h m fs′ r′ d′ (p + 1) 0 fs _ _ (k .0) e (g′ .2) (k .1)
+        carry p fs r d t (Do (Store x a b)) is h m fs′ r′ d′ (p + 1) 0 fs _ _ (k .0) e (g .1) (k .1)
         (stored p fs r d t is law eight x a b h (f .2) (z .0) (z .1)))
         (λ (o : lengthOf tables b ≤ held r a).
         let k = g′ .1 o in
         let e1 : ltb (held r a) (lengthOf tables b) ≡ false = le-ltb (held r a) (lengthOf tables b) o in
-        carry p fs r d t (Do (Store x a b)) is h m fs′ r′ d′ p 3 fs r d (k .0) e (g′ .2) (k .1)
+        carry p fs r d t (Do (Store x a b)) is h m fs′ r′ d′ p 3 fs r d (k .0) e (g .1) (k .1)
         (faulted p fs r d t (Do (Store x a b)) is h (ap (λ z. land (stores z p x b (held r a) (firstCell tables b + held r a) (state r (d .cells) t)) (suc p) fs) e1)))
         (cases-lt (held r a) (lengthOf tables b))
 

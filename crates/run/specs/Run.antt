@@ -24,8 +24,13 @@ use Rattle.machine.specs.Nested.{exec}
 use Rattle.counting.specs.Counting.{mostSteps, mostMarks}
 use Rattle.run.specs.declared.Outcome.{Outcome}
 
+-- the visit of a place with a choice
 abbrev pub visitAt : ℕ → ℕ → Visit
 visitAt p c = record { place = p; choice = c }
+
+-- an outcome, from its parts
+abbrev pub outcomeOf : List ℕ → ℕ → ℕ → Option ℕ → Outcome
+outcomeOf registers steps marks fault = record { registers = registers; steps = steps; marks = marks; fault = fault }
 
 -- the visits of a trace, oldest first
 abbrev pub visitsOf : List Event → List Visit

@@ -1,12 +1,13 @@
 // A program's run on a memory.
 ghost use mathlib.Core.Path.{_≡_};
+ghost use Prim.Native.Nat.{_<_};
 ghost use lib.ListN.{length};
 ghost use Rattle.std.specs.declared.result.Result.the-variants.{Err};
 ghost use Rattle.program.specs.Refusals.{refusal};
 ghost use Rattle.machine.specs.States.{held};
 ghost use Rattle.machine.specs.Programs.{codeOf};
 ghost use Rattle.execution.specs.Runs.{Runs-end};
-ghost use Rattle.run.specs.Run.{Runnable, Ended, Ran, Tested, ReadNested, finish};
+ghost use Rattle.run.specs.Run.{visitAt, outcomeOf, Runnable, Ended, Ran, Tested, ReadNested, finish};
 use counting::most_marks;
 use counting::most_steps;
 use execution::is_over;
@@ -76,6 +77,28 @@ fn test<M: Memory>(program: &Program, memory: &M, room: usize) -> Result<(), Ref
     Ok(())
 }
 
+fn visit(place: usize, choice: u8) -> Visit
+    requires { ⌜ place < 3000 ⌝ }
+    ensures { λ r. ⌜ r ≡ visitAt place choice ⌝ }
+{
+    Visit {
+        place: place as u16,
+        choice,
+    }
+}
+
+fn ended(registers: [u32; 32], steps: usize, marks: usize, fault: Option<u16>) -> Outcome
+    ensures { λ r. ⌜ r ≡ outcomeOf registers steps marks fault ⌝ }
+{
+    Outcome {
+        registers,
+        steps,
+        marks,
+        fault,
+    }
+}
+
+// The run itself: every access is one that the memory does not deny.
 fn go<M: Memory>(
     program: &Program,
     memory: &mut M,
@@ -103,27 +126,15 @@ fn go<M: Memory>(
             &mut repeats,
             memory,
         );
-        visits[steps] = Visit {
-            place: place as u16,
-            choice: moved.choice,
-        };
+        visits[steps] = visit(place, moved.choice);
         steps += 1;
         if moved.choice == FAULT {
-            return Outcome {
-                registers,
-                steps,
-                marks: memory.marks() - before,
-                fault: Some(place as u16),
-            };
+            let marks = memory.marks() - before;
+            return ended(registers, steps, marks, Some(place as u16));
         }
         place = moved.place;
     }
-    Outcome {
-        registers,
-        steps,
-        marks: memory.marks() - before,
-        fault: None,
-    }
+    ended(registers, steps, memory.marks() - before, None)
 }
 
 /// Runs a program of either kind from these entry registers, and writes down each step. It refuses,

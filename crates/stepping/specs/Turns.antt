@@ -23,26 +23,30 @@ use Rattle.repeats.specs.Moves.{innermost, Goes}
 use Rattle.windows.specs.declared.Window.{Window}
 use Rattle.windows.specs.Windows.{noWindow}
 
+-- a load into register x of offset i of a window: the registers r and the memory d, the move m, the
+-- registers and the memory then
 module _ (p : ℕ) (r : List ℕ) (d : Description) (m : Move) (r′ : List ℕ) (d′ : Description) where
-  -- a load into register x of offset i of a window
+  -- in range it is read and marked; otherwise nothing changes
   abbrev pub Loaded : ℕ → ℕ → Window → Type 0
   Loaded x i w =
       (i < w .length → Goes (p + 1) 0 m × (r′ ≡ set r x (held (d .cells) (w .first + i))) × (d′ ≡ marked d (d .cells) (d .rules .shows Read (w .first) (w .length) i)))
       × (w .length ≤ i → Goes p 3 m × (r′ ≡ r) × (d′ ≡ d))
 
-  -- a store of register x
+-- a store of a word at offset i of a window
+module _ (p : ℕ) (d : Description) (m : Move) (d′ : Description) where
+  -- in range it is written and marked; otherwise nothing changes
   abbrev pub Stored : ℕ → ℕ → Window → Type 0
-  Stored x i w =
-      (i < w .length → Goes (p + 1) 0 m × (d′ ≡ marked d (set (d .cells) (w .first + i) (held r x)) (d .rules .shows Write (w .first) (w .length) i)))
-      × (w .length ≤ i → Goes p 3 m × (d′ ≡ d)) × (r′ ≡ r)
+  Stored word i w =
+      (i < w .length → Goes (p + 1) 0 m × (d′ ≡ marked d (set (d .cells) (w .first + i) word) (d .rules .shows Write (w .first) (w .length) i)))
+      × (w .length ≤ i → Goes p 3 m × (d′ ≡ d))
 
--- what an op does: the registers r and the memory d, the move m, the registers and the memory then
+-- what an op does
 module _ (ws : List Window) (p : ℕ) (r : List ℕ) (d : Description) (m : Move) (r′ : List ℕ) (d′ : Description) where
   abbrev pub Done : Op → Type 0
   Done (Set x v) = Goes (p + 1) 0 m × (r′ ≡ set r x (valueOf v (held r))) × (d′ ≡ d)
   Done (Pick x a b) = Goes (p + 1) 0 m × (r′ ≡ set r x (cond (eqb (held r a) 0) (held r x) (held r b))) × (d′ ≡ d)
   Done (Load x a t) = Loaded p r d m r′ d′ x (held r a) (getD ws t noWindow)
-  Done (Store x a t) = Stored p r d m r′ d′ x (held r a) (getD ws t noWindow)
+  Done (Store x a t) = Stored p d m d′ (held r x) (held r a) (getD ws t noWindow) × (r′ ≡ r)
 
 -- what an instruction does, with the open repeats before and then
 module _ (ws : List Window) (js : List ℕ) (p : ℕ) (fs : List OpenRepeat) (r : List ℕ) (d : Description) (m : Move) (fs′ : List OpenRepeat) (r′ : List ℕ) (d′ : Description) where

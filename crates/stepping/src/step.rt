@@ -1,16 +1,18 @@
 // One step of a run.
 ghost use mathlib.Core.Path.{_≡_};
 ghost use mathlib.Core.Bool.{cond};
-ghost use Prim.Native.Nat.{_<_};
+ghost use Prim.Native.Nat.{_+_, _<_};
 ghost use lib.Dec.{eqb};
 ghost use Rattle.stack.specs.Items.{items};
+ghost use Rattle.memory.specs.declared.Access.the-variants.{Read, Write};
 ghost use Rattle.machine.specs.Fits.{FitOp, Fit};
 ghost use Rattle.repeats.specs.Moves.{Goes};
-ghost use Rattle.stepping.specs.Turns.{Done, Turned, ReadyOp, Ready};
+ghost use Rattle.stepping.specs.Turns.{Loaded, Stored, Done, Turned, Allowed, ReadyOp, Ready};
 use crate::access::fetch;
 use crate::access::keep;
 use instructions::Instruction;
 use instructions::Op;
+use instructions::Register;
 use machine::words;
 use memory::Memory;
 use repeats::Move;
@@ -41,6 +43,48 @@ fn branch(flag: u32, next: usize, other: usize) -> Move
     }
 }
 
+fn onward(place: usize) -> Move
+    requires { ⌜ place < 3000 ⌝ }
+    ensures { λ r. ⌜ Goes (place + 1) 0 r ⌝ }
+{
+    Move {
+        place: place + 1,
+        choice: 0,
+    }
+}
+
+fn load<M: Memory>(
+    target: Register,
+    off: usize,
+    window: Window,
+    place: usize,
+    registers: &mut [u32; 32],
+    memory: &mut M,
+) -> Move
+    requires fits { ⌜ target < 32 ⌝ }
+    requires allowed { ⌜ Allowed (model (now memory)) Read off window ⌝ }
+    requires short { ⌜ place < 3000 ⌝ }
+    ensures { λ r. ⌜ Loaded place (now (registers .entry)) (model (now (memory .entry))) r (now (registers .exit)) (model (now (memory .exit))) target off window ⌝ }
+{
+    if off >= window.length {
+        return Move { place, choice: 3 };
+    }
+    registers[target as usize] = fetch(memory, window, off);
+    onward(place)
+}
+
+fn store<M: Memory>(word: u32, at: usize, window: Window, place: usize, memory: &mut M) -> Move
+    requires allowed { ⌜ Allowed (model (now memory)) Write at window ⌝ }
+    requires short { ⌜ place < 3000 ⌝ }
+    ensures { λ r. ⌜ Stored place (model (now (memory .entry))) r (model (now (memory .exit))) word at window ⌝ }
+{
+    if at >= window.length {
+        return Move { place, choice: 3 };
+    }
+    keep(memory, window, at, word);
+    onward(place)
+}
+
 fn perform<M: Memory>(
     op: Op,
     place: usize,
@@ -56,6 +100,7 @@ fn perform<M: Memory>(
     match op {
         Op::Set { target, value } => {
             registers[target as usize] = words::value(value, registers);
+            onward(place)
         }
         Op::Pick {
             target,
@@ -67,31 +112,28 @@ fn perform<M: Memory>(
                 registers[from as usize],
                 registers[target as usize],
             );
+            onward(place)
         }
         Op::Load {
             target,
             index,
             table,
         } => {
-            let window = of_table(windows, table);
             let off = registers[index as usize] as usize;
-            if off >= window.length {
-                return Move { place, choice: 3 };
-            }
-            registers[target as usize] = fetch(memory, window, off);
+            load(
+                target,
+                off,
+                of_table(windows, table),
+                place,
+                registers,
+                memory,
+            )
         }
         Op::Store { from, index, table } => {
-            let window = of_table(windows, table);
-            let off = registers[index as usize] as usize;
-            if off >= window.length {
-                return Move { place, choice: 3 };
-            }
-            keep(memory, window, off, registers[from as usize]);
+            let at = registers[index as usize] as usize;
+            let word = registers[from as usize];
+            store(word, at, of_table(windows, table), place, memory)
         }
-    }
-    Move {
-        place: place + 1,
-        choice: 0,
     }
 }
 

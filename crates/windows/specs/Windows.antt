@@ -8,6 +8,7 @@ use Rattle.program.specs.Headers.{firstCell}
 use Rattle.machine.specs.Machine.{lengthOf}
 use Rattle.windows.specs.declared.Window.{Window}
 
+-- no table
 abbrev pub noWindow : Window
 noWindow = record { first = 0; length = 0 }
 

@@ -60,18 +60,18 @@ stepped g c =
     (c .at .result) (f .depth) (c .at .ensures .here) fit ready may (c .step-moved .ensures)
 
 pub offset-visits-steps : need.offset-visits-steps
-offset-visits-steps g c = let b = few g c in omega (arith, c .pre .short)
+offset-visits-steps g c = let b = few g (need.at·offset-visits-steps g c .After-step-moved) in omega (arith, c .pre .short)
 
 pub index-visits-steps : need.index-visits-steps
-index-visits-steps g c = let b = room g c in omega (arith, c .turns .kept .visits)
+index-visits-steps g c = let b = room g (need.at·index-visits-steps g c .After-step-moved) in omega (arith, c .turns .kept .visits)
 
 pub add-steps : need.add-steps
-add-steps g c = let b = few g c in omega (arith, c .pre .short)
+add-steps g c = let b = few g (need.at·add-steps g c .After-step-moved) in omega (arith, c .pre .short)
 
-pub sub-result : need.sub-result
-sub-result g c =
-    let a = need.at·sub-result g c .After-step-moved in
-    let m = seen-more (kept-more (room g a) (a .turns .inv .kept) (stepped g a)) in
+pub sub-marks : need.sub-marks
+sub-marks g c =
+    let a = need.at·sub-marks g c .After-step-moved in
+    let m = seen-more (kept-more (room g a) (a .turns .inv .kept) (stepped g a) (c .visit .ensures)) in
     omega (arith, c .marks .ensures, c .marks-before .ensures)
 
 pub returns-then-moved-eq-FAULT : need.returns-then-moved-eq-FAULT
@@ -82,8 +82,8 @@ returns-then-moved-eq-FAULT g c =
     let d′ = g .M·Memory .model (c .step-moved .last .memory) in
     let t = stepped g a in
     let e = turn-fault (nest s) law (c .pre) (c .turns .inv) (c .if-moved-eq-FAULT .taken) t in
-    outcome (nest s) law (c .pre) _ _ (kept-more (room g a) (c .turns .inv .kept) t) (ap stateOf e)
-    refl (t .long ∙ c .turns .inv .wide) refl (ap (λ n. n - c .marks-before .result) (c .marks .ensures) ∙ ap (λ n. length (d′ .seen) - n) (c .marks-before .ensures)) (sym (ap faultOf e))
+    outcome (nest s) law (c .pre) _ _ (c .ended .ensures) (kept-more (room g a) (c .turns .inv .kept) t (c .visit .ensures)) (ap stateOf e)
+    (t .long ∙ c .turns .inv .wide) (ap (λ n. n - c .marks-before .result) (c .marks .ensures) ∙ ap (λ n. length (d′ .seen) - n) (c .marks-before .ensures)) (sym (ap faultOf e))
 
 pub turns-less : need.turns-less
 turns-less g c = let b = few g (need.at·turns-less g c .After-step-moved) in omega arith
@@ -91,10 +91,10 @@ turns-less g c = let b = few g (need.at·turns-less g c .After-step-moved) in om
 pub turns-again : need.turns-again
 turns-again g c =
     let a = need.at·turns-again g c .After-step-moved in
-    turn-more (nest (c .args .program .now)) (g .M·Memory·met .lawful (c .args .memory .now)) (c .pre) (c .turns .inv) (before g a) (c .if-moved-eq-FAULT .left) (stepped g a)
+    turn-more (nest (c .args .program .now)) (g .M·Memory·met .lawful (c .args .memory .now)) (c .pre) (c .turns .inv) (before g a) (c .if-moved-eq-FAULT .left) (stepped g a) (c .visit .ensures)
 
-pub sub-result-2 : need.sub-result-2
-sub-result-2 g c = let m = seen-more (c .turns .inv .kept) in omega (arith, c .marks-2 .ensures, c .marks-before .ensures)
+pub sub-marks-2 : need.sub-marks-2
+sub-marks-2 g c = let m = seen-more (c .turns .inv .kept) in omega (arith, c .marks-2 .ensures, c .marks-before .ensures)
 
 pub returns : need.returns
 returns g c =
@@ -102,5 +102,5 @@ returns g c =
     let law = g .M·Memory·met .lawful (c .args .memory .now) in
     let d = g .M·Memory .model (c .turns .memory) in
     let e = turn-end (nest s) law (c .pre) (c .turns .inv) (is-over s (c .header-count .ensures) (c .turns-test .ensures tt .value)) in
-    outcome (nest s) law (c .pre) _ _ (c .turns .inv .kept) (ap stateOf e)
-    refl (c .turns .inv .wide) refl (ap (λ n. n - c .marks-before .result) (c .marks-2 .ensures) ∙ ap (λ n. length (d .seen) - n) (c .marks-before .ensures)) (sym (ap faultOf e))
+    outcome (nest s) law (c .pre) _ _ (c .ended-2 .ensures) (c .turns .inv .kept) (ap stateOf e)
+    (c .turns .inv .wide) (ap (λ n. n - c .marks-before .result) (c .marks-2 .ensures) ∙ ap (λ n. length (d .seen) - n) (c .marks-before .ensures)) (sym (ap faultOf e))
