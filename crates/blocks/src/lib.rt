@@ -135,11 +135,7 @@ fn hold(heap: Global, block: &mut Block, number: usize, line: &str) -> Result<()
     match got(heap, block, what)? {
         Some(got) => {
             if got.as_str() != expected {
-                let text = format!(
-                    heap,
-                    "line {number}: {what}: expected {expected}, got {got}"
-                )?;
-                block.wrong = Some(text);
+                block.wrong = Some(differing(heap, number, line, got.as_str())?);
             }
         }
         None => {
@@ -147,6 +143,11 @@ fn hold(heap: Global, block: &mut Block, number: usize, line: &str) -> Result<()
         }
     }
     Ok(())
+}
+
+// The line has what was expected.
+fn differing(heap: Global, number: usize, line: &str, got: &str) -> Result<String, AllocError> {
+    format!(heap, "line {number}: expected {line}, got {got}")
 }
 
 // What a line asks for, and what it expects.
