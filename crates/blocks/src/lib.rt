@@ -10,6 +10,7 @@ use makes::call;
 use makes::call::AnswerDisplay;
 use makes::call::Call;
 use makes::named;
+use makes::named::Unnamed;
 use makes::named::UnnamedDisplay;
 use makes::shown::Seen;
 use makes::shown::SeenDisplay;
@@ -79,9 +80,7 @@ fn take_line(
 
 fn begin(heap: Global, number: usize, head: &str) -> Result<Block, AllocError> {
     let (id, rest) = head.split_once(' ').unwrap_or((head, ""));
-    let (make, given) = rest.split_once(' ').unwrap_or((rest, ""));
-    let cells = given.strip_prefix("cells=").unwrap_or("");
-    let (pile, wrong) = match named::pile(heap, make, cells)? {
+    let (pile, wrong) = match pile_of(heap, rest)? {
         Ok(pile) => (Some(pile), None),
         Err(why) => (None, Some(format!(heap, "line {number}: {why}")?)),
     };
@@ -91,6 +90,21 @@ fn begin(heap: Global, number: usize, head: &str) -> Result<Block, AllocError> {
         seen: false,
         wrong,
     })
+}
+
+// The pile of `MAKE cells=WORDS`.
+fn pile_of(heap: Global, text: &str) -> Result<Result<Pile, Unnamed>, AllocError> {
+    let Some((name, cells)) = text.split_once(" cells=") else {
+        return Ok(Err(Unnamed::Unreadable));
+    };
+    let make = match named::make(name) {
+        Ok(make) => make,
+        Err(why) => return Ok(Err(why)),
+    };
+    match named::pile(heap, make, cells)? {
+        Some(pile) => Ok(Ok(pile)),
+        None => Ok(Err(Unnamed::Unreadable)),
+    }
 }
 
 fn close(heap: Global, block: Block, ended: bool, report: &mut Report) -> Result<(), AllocError>
@@ -135,11 +149,7 @@ fn hold(heap: Global, block: &mut Block, number: usize, line: &str) -> Result<()
     match got(heap, block, what)? {
         Some(got) => {
             if got.as_str() != expected {
-                let text = format!(
-                    heap,
-                    "line {number}: {what}: expected {expected}, got {got}"
-                )?;
-                block.wrong = Some(text);
+                block.wrong = Some(differing(heap, number, line, got.as_str())?);
             }
         }
         None => {
@@ -147,6 +157,11 @@ fn hold(heap: Global, block: &mut Block, number: usize, line: &str) -> Result<()
         }
     }
     Ok(())
+}
+
+// The line has what was expected.
+fn differing(heap: Global, number: usize, line: &str, got: &str) -> Result<String, AllocError> {
+    format!(heap, "line {number}: expected {line}, got {got}")
 }
 
 // What a line asks for, and what it expects.

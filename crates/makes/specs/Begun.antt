@@ -6,6 +6,6 @@ use Rattle.layered.specs.Piles.{Pile, pileModel, piled}
 use Rattle.makes.specs.declared.make.Make.{Make}
 use Rattle.makes.specs.Makes.{begins}
 
--- the pile is that of some make, with some cells given
-abbrev pub Begun : Pile → Type 0
-Begun p = (m : Make) × (cells : List ℕ) × (pileModel p ≡ piled (m .layers) (begins (m .kind) (m .size) (m .list) cells))
+-- the pile is that of the make, with some cells given
+abbrev pub Begun : Make → Pile → Type 0
+Begun m p = (cells : List ℕ) × (pileModel p ≡ piled (m .layers) (begins (m .kind) (m .size) (m .list) cells))

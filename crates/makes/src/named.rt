@@ -1,6 +1,5 @@
 // Piles by their names, bottom first: `flat:SIZE:LIST` or `banked:1024:LIST`, and then for each layer
 // `+scan` or `+lineEXPONENT`.
-ghost use mathlib.Core.Path.{_≡_};
 ghost use Prim.Native.Nat.{_≤_};
 ghost use Rattle.std.specs.Results.{Cases};
 ghost use Rattle.std.specs.Slices.{found};
@@ -18,10 +17,9 @@ use std::alloc::AllocError;
 use std::alloc::Global;
 use std::fmt;
 
-/// Why there is no pile for a name.
+/// Why there is no make for a name.
 #[derive(Clone, Copy)]
 pub enum Unnamed {
-    /// The name or the cells cannot be read, or do not fit together.
     Unreadable,
     TooManyLayers,
 }
@@ -123,16 +121,13 @@ fn takes(make: Make, words: usize) -> bool {
     }
 }
 
-/// The pile of a name, beginning with the words of a text.
-pub fn pile(heap: Global, name: &str, cells: &str) -> Result<Result<Pile, Unnamed>, AllocError>
-    ensures { λ r. ⌜ made r (λ o. Cases o Begun (λ _. Unit {0})) ⌝ }
+/// The pile of a make, beginning with the words of a text; none where they cannot be read, or do not
+/// fit the make.
+pub fn pile(heap: Global, make: Make, cells: &str) -> Result<Option<Pile>, AllocError>
+    ensures { λ r. ⌜ made r (λ o. found o (Begun make)) ⌝ }
 {
-    let make = match make(name) {
-        Ok(make) => make,
-        Err(why) => return Ok(Err(why)),
-    };
     match words(heap, cells)? {
-        Some(words) if takes(make, words.len()) => Ok(Ok(built::build(heap, make, words)?)),
-        _ => Ok(Err(Unnamed::Unreadable)),
+        Some(words) if takes(make, words.len()) => Ok(Some(built::build(heap, make, words)?)),
+        _ => Ok(None),
     }
 }

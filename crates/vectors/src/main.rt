@@ -2,12 +2,15 @@
 use cases::named::Named;
 use cases::named::NamedDisplay;
 use cases::case;
+use std::alloc::AllocError;
+use std::alloc::Global;
 use std::env;
 use std::error::AnyError;
 use std::fs;
 use std::path::Path;
 use tally::Tally;
 use tally::TallyDisplay;
+use tally::report::Report;
 use trials::room::Room;
 
 fn text_of(rt: &LibcRuntime, path: &str) -> Result<String, AnyError> {
@@ -17,9 +20,27 @@ fn text_of(rt: &LibcRuntime, path: &str) -> Result<String, AnyError> {
     }
 }
 
+// Whether the cases of a text are blocks of lines.
+fn has_blocks(text: &str) -> bool {
+    for line in text.lines() {
+        if line.starts_with("memory ") {
+            return true;
+        }
+    }
+    false
+}
+
+fn report_on(heap: Global, room: &mut Room, text: &str) -> Result<Report, AllocError> {
+    if has_blocks(text) {
+        blocks::run(heap, text)
+    } else {
+        case::run(heap, room, text)
+    }
+}
+
 fn run_file(rt: &LibcRuntime, room: &mut Room, path: &str) -> Result<Tally, AnyError> {
     let text = text_of(rt, path)?;
-    let report = case::run(rt.alloc(), room, text.as_str())?;
+    let report = report_on(rt.alloc(), room, text.as_str())?;
     let name = Path::new(path).file_stem().unwrap_or(path);
     rt.print(Named {
         name,
