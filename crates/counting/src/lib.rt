@@ -6,9 +6,10 @@ ghost use lib.ListN.{length};
 ghost use Rattle.machine.specs.Most.{eachStep};
 ghost use Rattle.machine.specs.Programs.{codeOf};
 ghost use Rattle.execution.specs.Runs.{OverBy, CountsBy};
-ghost use Rattle.counting.specs.Counting.{Sum, mostSteps, markPrice, mostMarks};
+ghost use Rattle.counting.specs.Counting.{Sum, mostSteps, markPrice, mostMarks, Countable};
 use crate::pass::most;
 use crate::price::Price;
+use instructions::Instruction;
 use memory::Access;
 use memory::Memory;
 use program::program::Program;
@@ -25,7 +26,22 @@ pub fn most_steps(program: &Program) -> usize
     ensures ends { λ r. ⌜ (r ≤ 1000000 → OverBy (codeOf (now (program .entry))) r) ⌝ }
 {
     most(
-        program,
+        program.code(),
+        &Price {
+            step: 1,
+            read: [0; 8],
+            write: [0; 8],
+        },
+    )
+}
+
+/// The most steps of instructions that are in no program yet, held likewise.
+pub fn most_steps_of(code: &[Instruction]) -> usize
+    requires { ⌜ Countable (now code) ⌝ }
+    ensures { λ r. ⌜ r ≡ mostSteps (now (code .entry)) ⌝ }
+{
+    most(
+        code,
         &Price {
             step: 1,
             read: [0; 8],
@@ -56,7 +72,7 @@ pub fn most_marks<M: Memory>(program: &Program, memory: &M) -> usize
     ensures within { λ r. ⌜ (r ≤ 1000000 → CountsBy (markPrice (model (now (memory .entry)) .rules .cost) (now (program .entry) .header .tables)) (codeOf (now (program .entry))) r) ⌝ }
 {
     most(
-        program,
+        program.code(),
         &Price {
             step: 0,
             read: costs(memory, Access::Read, program),

@@ -12,9 +12,10 @@ loop-t-again g c =
     let cost = g .M·Memory .model (c .args .memory .now) .rules .cost (c .args .access) in
     let tables = c .header .result .tables in
     let i = c .loop-t .t in
-    let e : length tables ≡ 8 = ap (λ h. length (h .tables)) (c .header .ensures) ∙ c .args .program .now .eight in
-    (costs-more (λ t. cost (t .length)) (c .loop-t .all) tables i (c .cost .result) _ (omega (arith, c .loop-t .inv .1)) (omega (arith, e)) (c .loop-t .inv .0) (c .cost .ensures),
-     length-set (c .loop-t .all) i (c .cost .result) ∙ c .loop-t .inv .1)
+    let e : length tables ≡ 8 = ap (λ h. length (h .tables)) (c .header .ensures) ∙ c .args .program .now .eight in (
+      costs-more (λ t. cost (t .length)) (c .loop-t .all) tables i (c .cost .result) _ (omega (arith, c .loop-t .inv .1)) (omega (arith, e)) (c .loop-t .inv .0) (c .cost .ensures),
+      length-set (c .loop-t .all) i (c .cost .result) ∙ c .loop-t .inv .1,
+    )
 
 pub returns : need.returns
 returns g c =
