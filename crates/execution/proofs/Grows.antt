@@ -55,4 +55,3 @@ module _ (tables : List Table) (code : List Instruction) (w : Price) where
   pub steps-grow : (n : ℕ) (c : Conf) → weight c ≤ weight (steps tables code n c)
   steps-grow zero c = omega arith
   steps-grow (suc n) c = let e = next-grows c in let f = steps-grow n (next tables code c) in omega arith
-

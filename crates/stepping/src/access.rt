@@ -24,5 +24,7 @@ pub fn keep<M: Memory>(memory: &mut M, window: Window, off: usize, word: u32)
     requires room { ⌜ model (now memory) .rules .cost Write (window .length) ≤ free (model (now memory)) ⌝ }
     ensures { λ _. ⌜ model (now (memory .exit)) ≡ marked (model (now (memory .entry))) (set (model (now (memory .entry)) .cells) (window .first + off) word) (model (now (memory .entry)) .rules .shows Write (window .first) (window .length) off) ⌝ }
 {
-    memory.write(window.first, window.length, off, word).unwrap()
+    memory
+        .write(window.first, window.length, off, word)
+        .unwrap()
 }

@@ -124,8 +124,11 @@ pub fn step<M: Memory>(
             place: next,
             choice: 0,
         },
-        Instruction::Repeat { count, most } =>
-            repeats.begin(registers[count as usize].min(most), next, target),
+        Instruction::Repeat { count, most } => repeats.begin(
+            registers[count as usize].min(most),
+            next,
+            target,
+        ),
         Instruction::Again => repeats.back(next),
     }
 }

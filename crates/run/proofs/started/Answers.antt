@@ -22,12 +22,13 @@ loop-i-again c =
     let r = c .loop-i .registers in
     let i = c .loop-i .i in
     let v = getD (c .args .entry .now) i 0 in
-    let lt : i < length r = omega (arith, c .loop-i .inv .0) in
-    (length-set r i v ∙ c .loop-i .inv .0,
-     below-more (λ x. getD (set r i v) x 0 ≡ getD (c .args .entry .now) x 0) i
-       (λ x h. let ne : x ≢ i = (λ z. omega arith) in getD-set-other r i x v 0 ne ∙ c .loop-i .inv .1 x h)
-       (getD-set-same r i v 0 lt),
-     λ x h. (let ne : x ≢ i = (λ z. omega arith) in getD-set-other r i x v 0 ne ∙ c .loop-i .inv .2 x (omega arith)))
+    let lt : i < length r = omega (arith, c .loop-i .inv .0) in (
+      length-set r i v ∙ c .loop-i .inv .0,
+      below-more (λ x. getD (set r i v) x 0 ≡ getD (c .args .entry .now) x 0) i
+          (λ x h. let ne : x ≢ i = (λ z. omega arith) in getD-set-other r i x v 0 ne ∙ c .loop-i .inv .1 x h)
+          (getD-set-same r i v 0 lt),
+      λ x h. (let ne : x ≢ i = (λ z. omega arith) in getD-set-other r i x v 0 ne ∙ c .loop-i .inv .2 x (omega arith)),
+    )
 
 pub returns : need.returns
 returns c =

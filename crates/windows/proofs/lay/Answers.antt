@@ -24,10 +24,11 @@ loop-t-again c =
     let ts = c .header .result .tables in
     let t = c .loop-t .t in
     let e : length ts ≡ 8 = ap (λ h. length (h .tables)) (c .header .ensures) ∙ c .args .program .now .eight in
-    let w : ℕ → Window = λ f. record { first = f; length = lengthOf ts t } in
-    (ap (λ f. f + lengthOf ts t) (c .loop-t .inv .0) ∙ sym (first-more ts t (omega (arith, e))),
-     length-set (c .loop-t .windows) t (w (c .loop-t .first)) ∙ c .loop-t .inv .1,
-     laid-more ts (c .loop-t .windows) t (w (c .loop-t .first)) (omega (arith, c .loop-t .inv .1)) (ap w (c .loop-t .inv .0)) (c .loop-t .inv .2))
+    let w : ℕ → Window = λ f. record { first = f; length = lengthOf ts t } in (
+      ap (λ f. f + lengthOf ts t) (c .loop-t .inv .0) ∙ sym (first-more ts t (omega (arith, e))),
+      length-set (c .loop-t .windows) t (w (c .loop-t .first)) ∙ c .loop-t .inv .1,
+      laid-more ts (c .loop-t .windows) t (w (c .loop-t .first)) (omega (arith, c .loop-t .inv .1)) (ap w (c .loop-t .inv .0)) (c .loop-t .inv .2),
+    )
 
 pub returns : need.returns
 returns c = record {
