@@ -18,24 +18,7 @@ mod part;
 mod pass;
 mod price;
 
-/// The most steps of a run, held at 1,000,001: the sum over the nested blocks of the program. Where
-/// it is not held, every run is over after so many steps.
-pub fn most_steps(program: &Program) -> usize
-    ensures value { λ r. ⌜ r ≡ mostSteps (codeOf (now (program .entry))) ⌝ }
-    ensures sum { λ r. ⌜ Sum eachStep (codeOf (now (program .entry))) r ⌝ }
-    ensures ends { λ r. ⌜ (r ≤ 1000000 → OverBy (codeOf (now (program .entry))) r) ⌝ }
-{
-    most(
-        program.code(),
-        &Price {
-            step: 1,
-            read: [0; 8],
-            write: [0; 8],
-        },
-    )
-}
-
-/// The most steps of instructions that are in no program yet, held likewise.
+/// The most steps of instructions that need not be in a program, held at 1,000,001.
 pub fn most_steps_of(code: &[Instruction]) -> usize
     requires { ⌜ Countable (now code) ⌝ }
     ensures { λ r. ⌜ r ≡ mostSteps (now (code .entry)) ⌝ }
@@ -48,6 +31,16 @@ pub fn most_steps_of(code: &[Instruction]) -> usize
             write: [0; 8],
         },
     )
+}
+
+/// The most steps of a run, held at 1,000,001: the sum over the nested blocks of the program. Where
+/// it is not held, every run is over after so many steps.
+pub fn most_steps(program: &Program) -> usize
+    ensures value { λ r. ⌜ r ≡ mostSteps (codeOf (now (program .entry))) ⌝ }
+    ensures sum { λ r. ⌜ Sum eachStep (codeOf (now (program .entry))) r ⌝ }
+    ensures ends { λ r. ⌜ (r ≤ 1000000 → OverBy (codeOf (now (program .entry))) r) ⌝ }
+{
+    most_steps_of(program.code())
 }
 
 // What an access of a kind to each table costs.

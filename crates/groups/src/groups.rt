@@ -14,7 +14,8 @@ use instructions::Register;
 use instructions::Value;
 use program::header::Table;
 
-pub fn set_group(out: &mut Output, mask: Option<Register>, d: Register, value: Value)
+// A value goes into 25, and from there where the mask is not 0.
+fn set_group(out: &mut Output, mask: Option<Register>, d: Register, value: Value)
     requires { ⌜ now out .count + 2 ≤ 3000 ⌝ }
     ensures count { λ _. ⌜ now (out .exit) .count ≤ now (out .entry) .count + 2 ⌝ }
     ensures written { λ _. ⌜ written (now (out .exit)) ≡ written (now (out .entry)) ++ straight (setGroup mask d value) ⌝ }
@@ -34,7 +35,8 @@ pub fn set_group(out: &mut Output, mask: Option<Register>, d: Register, value: V
     }
 }
 
-pub fn pick_group(out: &mut Output, mask: Option<Register>, d: Register, a: Register, b: Register)
+// A pick is tried in 25, and goes from there where the mask is not 0.
+fn pick_group(out: &mut Output, mask: Option<Register>, d: Register, a: Register, b: Register)
     requires { ⌜ now out .count + 3 ≤ 3000 ⌝ }
     ensures count { λ _. ⌜ now (out .exit) .count ≤ now (out .entry) .count + 3 ⌝ }
     ensures written { λ _. ⌜ written (now (out .exit)) ≡ written (now (out .entry)) ++ straight (pickGroup mask d a b) ⌝ }
@@ -89,7 +91,8 @@ fn and_mask(out: &mut Output, mask: Option<Register>, x: Register)
     }
 }
 
-pub fn guard(out: &mut Output, mask: Option<Register>, cells: u16, place: usize, a: Register)
+// 25 tells whether the index is good, 26 is the index or 0, and 24 keeps the first bad place.
+fn guard(out: &mut Output, mask: Option<Register>, cells: u16, place: usize, a: Register)
     requires { ⌜ now out .count + 11 ≤ 3000 ⌝ ∗ ⌜ place < 200 ⌝ }
     ensures count { λ _. ⌜ now (out .exit) .count ≤ now (out .entry) .count + 11 ⌝ }
     ensures written { λ _. ⌜ written (now (out .exit)) ≡ written (now (out .entry)) ++ straight (guard mask cells place a) ⌝ }
@@ -165,7 +168,8 @@ pub fn guard(out: &mut Output, mask: Option<Register>, cells: u16, place: usize,
     );
 }
 
-pub fn load_end(out: &mut Output, mask: Option<Register>, d: Register, table: u8)
+// The load by the index in 26.
+fn load_end(out: &mut Output, mask: Option<Register>, d: Register, table: u8)
     requires { ⌜ now out .count + 2 ≤ 3000 ⌝ }
     ensures count { λ _. ⌜ now (out .exit) .count ≤ now (out .entry) .count + 2 ⌝ }
     ensures written { λ _. ⌜ written (now (out .exit)) ≡ written (now (out .entry)) ++ straight (loadEnd mask d table) ⌝ }
@@ -195,7 +199,8 @@ pub fn load_end(out: &mut Output, mask: Option<Register>, d: Register, table: u8
     }
 }
 
-pub fn store_end(out: &mut Output, mask: Option<Register>, d: Register, table: u8)
+// The store by the index in 26: where 25 is 0, the cell gets what it had.
+fn store_end(out: &mut Output, mask: Option<Register>, d: Register, table: u8)
     requires { ⌜ now out .count + 4 ≤ 3000 ⌝ }
     ensures count { λ _. ⌜ now (out .exit) .count ≤ now (out .entry) .count + 4 ⌝ }
     ensures written { λ _. ⌜ written (now (out .exit)) ≡ written (now (out .entry)) ++ straight (storeEnd mask d table) ⌝ }
@@ -222,6 +227,7 @@ pub fn store_end(out: &mut Output, mask: Option<Register>, d: Register, table: u
     );
 }
 
+/// A secret if by register `a`, where `own` is the mask that it opens.
 pub fn if_group(out: &mut Output, mask: Option<Register>, own: Register, a: Register)
     requires { ⌜ now out .count + 4 ≤ 3000 ⌝ }
     ensures count { λ _. ⌜ now (out .exit) .count ≤ now (out .entry) .count + 4 ⌝ }
@@ -254,6 +260,7 @@ pub fn if_group(out: &mut Output, mask: Option<Register>, own: Register, a: Regi
     and_mask(out, mask, own);
 }
 
+/// The else of a secret if.
 pub fn else_group(out: &mut Output, mask: Option<Register>, own: Register)
     requires { ⌜ now out .count + 2 ≤ 3000 ⌝ }
     ensures count { λ _. ⌜ now (out .exit) .count ≤ now (out .entry) .count + 2 ⌝ }
@@ -289,7 +296,7 @@ pub fn else_group(out: &mut Output, mask: Option<Register>, own: Register)
     }
 }
 
-// The register that masks a place with so many secret ifs around.
+/// The register that masks a place with so many secret ifs around.
 pub fn mask_at(secrets: u8) -> Option<Register>
     requires { ⌜ secrets ≤ 8 ⌝ }
     ensures { λ r. ⌜ r ≡ maskAt secrets ⌝ }
@@ -335,6 +342,7 @@ fn store_group(
     store_end(out, mask, d, table)
 }
 
+/// Writes what an op at a source place becomes.
 pub fn op_group(out: &mut Output, op: Op, mask: Option<Register>, place: usize, tables: &[Table; 8])
     requires { ⌜ now out .count + 15 ≤ 3000 ⌝ ∗ ⌜ place < 200 ⌝ ∗ ⌜ boundOp 16 8 op ≡ true ⌝ }
     ensures count { λ _. ⌜ now (out .exit) .count ≤ now (out .entry) .count + 15 ⌝ }
