@@ -40,10 +40,16 @@ pickGroup None d a b = Pick d a b ∷ []
 pickGroup (Some m) d a b = Set 25 (Move d) ∷ Pick 25 a b ∷ Pick d m 25 ∷ []
 
 -- a load or store by index register a in a table of t cells begins so: 25 tells whether the index
--- is good, 26 is the index or 0, and 27 tells that it is bad and no bad one came before
+-- is good, and 26 is the index or 0
+abbrev pub inRange : ℕ → ℕ → List Op
+inRange t a = Set 25 (Const t) ∷ Set 25 (Binary Below a 25) ∷ Set 26 (Const 0) ∷ Pick 26 25 a ∷ []
+
+-- 27 tells that the index is bad and no bad one came before
+abbrev pub firstBad : List Op
+firstBad = Set 27 (Const 0) ∷ Set 28 (Binary Same 24 27) ∷ Set 27 (Binary Same 25 27) ∷ Set 27 (Binary And 27 28) ∷ []
+
 abbrev pub guardStart : ℕ → ℕ → List Op
-guardStart t a =
-    Set 25 (Const t) ∷ Set 25 (Binary Below a 25) ∷ Set 26 (Const 0) ∷ Pick 26 25 a ∷ Set 27 (Const 0) ∷ Set 28 (Binary Same 24 27) ∷ Set 27 (Binary Same 25 27) ∷ Set 27 (Binary And 27 28) ∷ []
+guardStart t a = inRange t a ++ firstBad
 
 -- 24 keeps the first bad place, and one added
 abbrev pub guardMark : ℕ → List Op

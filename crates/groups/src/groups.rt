@@ -6,7 +6,7 @@ ghost use Prim.Native.Nat.{ℕ, _+_, _<_, _≤_};
 ghost use lib.ListN.{length};
 ghost use Rattle.groups.specs.Outputs.{written};
 ghost use Rattle.program.specs.Bounds.{boundOp};
-ghost use Rattle.groups.specs.Groups.{straight, maskAt, lengths, opGroup, setGroup, pickGroup, andMask, guard, loadEnd, storeEnd, ifGroup, elseGroup};
+ghost use Rattle.groups.specs.Groups.{straight, maskAt, lengths, opGroup, setGroup, pickGroup, andMask, inRange, firstBad, guardStart, guard, loadEnd, storeEnd, ifGroup, elseGroup};
 use crate::output::Output;
 use instructions::BinaryOp;
 use instructions::Op;
@@ -91,11 +91,11 @@ fn and_mask(out: &mut Output, mask: Option<Register>, x: Register)
     }
 }
 
-// 25 tells whether the index is good, 26 is the index or 0, and 24 keeps the first bad place.
-fn guard(out: &mut Output, mask: Option<Register>, cells: u16, place: usize, a: Register)
-    requires { ⌜ now out .count + 11 ≤ 3000 ⌝ ∗ ⌜ place < 200 ⌝ }
-    ensures count { λ _. ⌜ now (out .exit) .count ≤ now (out .entry) .count + 11 ⌝ }
-    ensures written { λ _. ⌜ written (now (out .exit)) ≡ written (now (out .entry)) ++ straight (guard mask cells place a) ⌝ }
+// 25 tells whether the index is good, and 26 is the index or 0.
+fn in_range(out: &mut Output, cells: u16, a: Register)
+    requires { ⌜ now out .count + 4 ≤ 3000 ⌝ }
+    ensures count { λ _. ⌜ now (out .exit) .count ≡ now (out .entry) .count + 4 ⌝ }
+    ensures written { λ _. ⌜ written (now (out .exit)) ≡ written (now (out .entry)) ++ straight (inRange cells a) ⌝ }
 {
     out.put(
         &[
@@ -120,6 +120,18 @@ fn guard(out: &mut Output, mask: Option<Register>, cells: u16, place: usize, a: 
                 condition: 25,
                 from: a,
             },
+        ],
+    );
+}
+
+// 27 tells that the index is bad and no bad one came before.
+fn first_bad(out: &mut Output)
+    requires { ⌜ now out .count + 4 ≤ 3000 ⌝ }
+    ensures count { λ _. ⌜ now (out .exit) .count ≡ now (out .entry) .count + 4 ⌝ }
+    ensures written { λ _. ⌜ written (now (out .exit)) ≡ written (now (out .entry)) ++ straight firstBad ⌝ }
+{
+    out.put(
+        &[
             Op::Set {
                 target: 27,
                 value: Value::Const { word: 0 },
@@ -150,6 +162,24 @@ fn guard(out: &mut Output, mask: Option<Register>, cells: u16, place: usize, a: 
             },
         ],
     );
+}
+
+fn guard_start(out: &mut Output, cells: u16, a: Register)
+    requires { ⌜ now out .count + 8 ≤ 3000 ⌝ }
+    ensures count { λ _. ⌜ now (out .exit) .count ≡ now (out .entry) .count + 8 ⌝ }
+    ensures written { λ _. ⌜ written (now (out .exit)) ≡ written (now (out .entry)) ++ straight (guardStart cells a) ⌝ }
+{
+    in_range(out, cells, a);
+    first_bad(out);
+}
+
+// The beginning of a load or store: 24 keeps the first bad place.
+fn guard(out: &mut Output, mask: Option<Register>, cells: u16, place: usize, a: Register)
+    requires { ⌜ now out .count + 11 ≤ 3000 ⌝ ∗ ⌜ place < 200 ⌝ }
+    ensures count { λ _. ⌜ now (out .exit) .count ≤ now (out .entry) .count + 11 ⌝ }
+    ensures written { λ _. ⌜ written (now (out .exit)) ≡ written (now (out .entry)) ++ straight (guard mask cells place a) ⌝ }
+{
+    guard_start(out, cells, a);
     and_mask(out, mask, 27);
     out.put(
         &[

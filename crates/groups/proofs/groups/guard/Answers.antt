@@ -7,6 +7,6 @@ use Rattle.groups.proofs.groups.guard.Needs as need
 
 pub returns : need.returns
 returns c = record {
-  count = omega (arith, c .put .ensures .count, c .and-mask .ensures .count, c .put-2 .ensures .count);
-  written = then-three _ _ _ _ (guardStart (c .args .cells) (c .args .a)) (andMask (c .args .mask) 27) (guardMark (c .args .place)) (c .put .ensures .written) (c .and-mask .ensures .written) (c .put-2 .ensures .written);
+  count = omega (arith, c .guard-start .ensures .count, c .and-mask .ensures .count, c .put .ensures .count);
+  written = then-three _ _ _ _ (guardStart (c .args .cells) (c .args .a)) (andMask (c .args .mask) 27) (guardMark (c .args .place)) (c .guard-start .ensures .written) (c .and-mask .ensures .written) (c .put .ensures .written);
 }
