@@ -2,23 +2,31 @@
 use mathlib.Core.Path.{_≡_}
 use mathlib.Core.Bool.{cond}
 use mathlib.Core.List.{List, [], _∷_, map}
-use Prim.Native.Nat.{ℕ, _+_, _*_, max}
+use Prim.Native.Nat.{ℕ, _+_, _*_, _<_, max}
 use lib.Dec.{ltb}
-use lib.ListN.{length}
+use lib.ListN.{length, getD}
+use Rattle.std.specs.declared.option.Option.the-variants.{None}
 use Rattle.instructions.specs.declared.Instruction.{Instruction}
 use Rattle.instructions.specs.declared.Instruction.the-variants.{Do, If, Else, End, Repeat, Again}
 use Rattle.program.specs.declared.header.Table.{Table}
+use Rattle.program.specs.Pairing.{pairing}
 use Rattle.program.specs.Blocks.{Block, flat}
 use Rattle.stack.specs.Items.{below, swapped}
 use Rattle.memory.specs.declared.Access.{Access}
 use Rattle.memory.specs.declared.Access.the-variants.{Read, Write}
 use Rattle.machine.specs.States.{held}
+use Rattle.machine.specs.Fits.{Fit}
 use Rattle.machine.specs.Most.{Price, eachStep, hold, price, mostOf}
 use Rattle.counting.specs.declared.part.Part.{Part}
 
 -- the sum over the nested blocks that these instructions are, held at 1,000,001
 abbrev pub Sum : Price → List Instruction → ℕ → Type 0
 Sum w code n = (b : Block (Unit {0})) × (flat b [] ≡ code) × (n ≡ hold (mostOf w b))
+
+-- what can be counted: the bounds of every instruction are kept, and the brackets pair
+pub record Countable (code : List Instruction) : Type 0 where
+  pub fits : (p : ℕ) → p < length code → Fit 32 8 (getD code p Again)
+  pub pairs : pairing [] 0 code ≡ None
 
 -- an open bracket: what was counted before it, what its first arm counts with the step of the else
 -- after it, and how often it goes round

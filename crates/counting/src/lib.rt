@@ -6,9 +6,10 @@ ghost use lib.ListN.{length};
 ghost use Rattle.machine.specs.Most.{eachStep};
 ghost use Rattle.machine.specs.Programs.{codeOf};
 ghost use Rattle.execution.specs.Runs.{OverBy, CountsBy};
-ghost use Rattle.counting.specs.Counting.{Sum, mostSteps, markPrice, mostMarks};
+ghost use Rattle.counting.specs.Counting.{Sum, mostSteps, markPrice, mostMarks, Countable};
 use crate::pass::most;
 use crate::price::Price;
+use instructions::Instruction;
 use memory::Access;
 use memory::Memory;
 use program::program::Program;
@@ -17,6 +18,21 @@ mod part;
 mod pass;
 mod price;
 
+/// The most steps of instructions that need not be in a program, held at 1,000,001.
+pub fn most_steps_of(code: &[Instruction]) -> usize
+    requires { ⌜ Countable (now code) ⌝ }
+    ensures { λ r. ⌜ r ≡ mostSteps (now (code .entry)) ⌝ }
+{
+    most(
+        code,
+        &Price {
+            step: 1,
+            read: [0; 8],
+            write: [0; 8],
+        },
+    )
+}
+
 /// The most steps of a run, held at 1,000,001: the sum over the nested blocks of the program. Where
 /// it is not held, every run is over after so many steps.
 pub fn most_steps(program: &Program) -> usize
@@ -24,14 +40,7 @@ pub fn most_steps(program: &Program) -> usize
     ensures sum { λ r. ⌜ Sum eachStep (codeOf (now (program .entry))) r ⌝ }
     ensures ends { λ r. ⌜ (r ≤ 1000000 → OverBy (codeOf (now (program .entry))) r) ⌝ }
 {
-    most(
-        program,
-        &Price {
-            step: 1,
-            read: [0; 8],
-            write: [0; 8],
-        },
-    )
+    most_steps_of(program.code())
 }
 
 // What an access of a kind to each table costs.
@@ -56,7 +65,7 @@ pub fn most_marks<M: Memory>(program: &Program, memory: &M) -> usize
     ensures within { λ r. ⌜ (r ≤ 1000000 → CountsBy (markPrice (model (now (memory .entry)) .rules .cost) (now (program .entry) .header .tables)) (codeOf (now (program .entry))) r) ⌝ }
 {
     most(
-        program,
+        program.code(),
         &Price {
             step: 0,
             read: costs(memory, Access::Read, program),

@@ -5,14 +5,11 @@ ghost use Prim.Native.Nat.{_+_, _≤_};
 ghost use Rattle.stack.specs.Held.{held};
 ghost use Rattle.machine.specs.Fits.{FitOp, Fit};
 ghost use Rattle.machine.specs.Most.{hold, price};
-ghost use Rattle.machine.specs.Programs.{codeOf};
-ghost use Rattle.counting.specs.Counting.{part as bracket, innermost, entered, priced, Added, sums};
+ghost use Rattle.counting.specs.Counting.{part as bracket, innermost, entered, priced, Added, sums, Countable};
 use crate::part::Part;
 use crate::price::Price;
 use instructions::Instruction;
 use instructions::Op;
-use machine::places::at;
-use program::program::Program;
 use stack::Stack;
 
 /// What is larger is held at this.
@@ -96,9 +93,10 @@ fn add(instruction: Instruction, prices: &Price, parts: &mut Stack<Part>, sum: u
     }
 }
 
-/// The most that a program counts, by one pass over its instructions.
-pub fn most(program: &Program, prices: &Price) -> usize
-    ensures { λ r. ⌜ r ≡ sums (priced (now (prices .entry) .step) (now (prices .entry) .read) (now (prices .entry) .write)) [] 0 (codeOf (now (program .entry))) ⌝ }
+/// The most that a row of instructions counts, by one pass over it.
+pub fn most(code: &[Instruction], prices: &Price) -> usize
+    requires { ⌜ Countable (now code) ⌝ }
+    ensures { λ r. ⌜ r ≡ sums (priced (now (prices .entry) .step) (now (prices .entry) .read) (now (prices .entry) .write)) [] 0 (now (code .entry)) ⌝ }
 {
     let mut parts = Stack::new(Part {
         before: 0,
@@ -106,8 +104,8 @@ pub fn most(program: &Program, prices: &Price) -> usize
         rounds: 0,
     });
     let mut sum = 0;
-    for place in 0..program.header().count as usize {
-        sum = add(at(program, place), prices, &mut parts, sum);
+    for place in 0..code.len() {
+        sum = add(code[place], prices, &mut parts, sum);
     }
     sum
 }

@@ -16,7 +16,7 @@ use Rattle.instructions.specs.declared.Instruction.{Instruction}
 use Rattle.instructions.specs.declared.Instruction.the-variants.{Again}
 use Rattle.program.specs.declared.header.Header.{Header}
 use Rattle.program.specs.declared.refusal.Reason.{Reason}
-use Rattle.program.specs.declared.refusal.Reason.the-variants.{NoHeader, BadHeader, BadLength, BadField, BadBracket, TooDeep, NoRoomForCode, NotASource, TooManySteps, NoRoomForResult, NoRoomForImage, MemoryTooSmall, NoFreeMarks, NoRoomForVisits, OutsideTable, NoRoomForMarks}
+use Rattle.program.specs.declared.refusal.Reason.the-variants.{NoHeader, BadHeader, BadLength, BadField, BadBracket, TooDeep, NoRoomForCode, NotASource, SecretRepeat, SecretIndex, PublicStore, TooManySteps, NoRoomForResult, NoRoomForImage, MemoryTooSmall, NoFreeMarks, NoRoomForVisits, OutsideTable, NoRoomForMarks}
 use Rattle.program.specs.declared.refusal.Refusal.{Refusal}
 use Rattle.program.specs.Refusals.{unless, orElse}
 use Rattle.program.specs.Headers.{registersOf}
@@ -110,6 +110,9 @@ ofBrackets BadBracket = true
 ofBrackets TooDeep = true
 ofBrackets NoRoomForCode = false
 ofBrackets NotASource = false
+ofBrackets SecretRepeat = false
+ofBrackets SecretIndex = false
+ofBrackets PublicStore = false
 ofBrackets TooManySteps = false
 ofBrackets NoRoomForResult = false
 ofBrackets NoRoomForImage = false

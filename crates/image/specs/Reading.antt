@@ -13,7 +13,7 @@ use Rattle.program.specs.declared.program.Program.{Program}
 use Rattle.program.specs.declared.refusal.Reason.the-variants.{BadBracket, TooDeep}
 use Rattle.program.specs.Blocks.{Nested}
 use Rattle.header.specs.Layout.{headerAt}
-use Rattle.image.specs.declared.handed_back.HandedBack.{HandedBack}
+use Rattle.program.specs.declared.handed_back.HandedBack.{HandedBack}
 use Rattle.image.specs.Images.{codeOf, readRefusal, imageOf}
 
 -- the instructions of a program

@@ -1,4 +1,3 @@
 // Program images: reading and writing.
-pub mod handed_back;
 pub mod reader;
 pub mod writer;

@@ -47,6 +47,10 @@ fn in_words(reason: Reason) -> &'static str {
         Reason::TooDeep => "more than eight openings are open together",
         Reason::NoRoomForCode => "the instruction list is shorter than the program",
         Reason::NotASource => "the program is not a source",
+        Reason::SecretRepeat => "a repeat is by a secret register",
+        Reason::SecretIndex => "an index is secret, and the memory does not hide it",
+        Reason::PublicStore =>
+            "a store into a public table is masked, or its value or index is secret",
         Reason::TooManySteps => "the most steps are above 1,000,000",
         Reason::NoRoomForResult => "the list is shorter than the result",
         Reason::NoRoomForImage => "the byte list is shorter than the image",

@@ -6,7 +6,7 @@ use Rattle.std.specs.declared.option.Option.the-variants.{Some, None}
 use Rattle.std.specs.declared.result.Result.{Result}
 use Rattle.std.specs.declared.result.Result.the-variants.{Ok, Err}
 use Rattle.program.specs.declared.refusal.Reason.{Reason}
-use Rattle.program.specs.declared.refusal.Reason.the-variants.{NoHeader, BadHeader, BadLength, BadField, BadBracket, TooDeep, NoRoomForCode, NotASource, TooManySteps, NoRoomForResult, NoRoomForImage, MemoryTooSmall, NoFreeMarks, NoRoomForVisits, OutsideTable, NoRoomForMarks}
+use Rattle.program.specs.declared.refusal.Reason.the-variants.{NoHeader, BadHeader, BadLength, BadField, BadBracket, TooDeep, NoRoomForCode, NotASource, SecretRepeat, SecretIndex, PublicStore, TooManySteps, NoRoomForResult, NoRoomForImage, MemoryTooSmall, NoFreeMarks, NoRoomForVisits, OutsideTable, NoRoomForMarks}
 use Rattle.program.specs.declared.refusal.Refusal.{Refusal}
 
 abbrev pub numberOf : Reason → ℕ
@@ -18,6 +18,9 @@ numberOf BadBracket = 6
 numberOf TooDeep = 7
 numberOf NoRoomForCode = 8
 numberOf NotASource = 10
+numberOf SecretRepeat = 11
+numberOf SecretIndex = 12
+numberOf PublicStore = 13
 numberOf TooManySteps = 14
 numberOf NoRoomForResult = 15
 numberOf NoRoomForImage = 16

@@ -21,6 +21,12 @@ pub enum Reason {
     NoRoomForCode = 8,
     /// A program that is not a source where a source is asked for.
     NotASource = 10,
+    /// A repeat by a secret register.
+    SecretRepeat = 11,
+    /// A secret index into a table of a memory that does not hide it.
+    SecretIndex = 12,
+    /// A store into a public table that is masked, or of a secret value or at a secret index.
+    PublicStore = 13,
     /// A program whose most steps are above 1,000,000.
     TooManySteps = 14,
     /// A list shorter than the result that is written into it.

@@ -1,32 +1,36 @@
-use mathlib.Core.Path.{_≡_, ap}
-use Prim.Native.Nat.{_<_}
-use native.Mathlib.Omega.{arith}
-use lib.ListN.{length}
-use Rattle.machine.specs.Most.{Price}
-use Rattle.machine.specs.Programs.{codeOf}
-use Rattle.machine.proofs.Programs.{code-long, code-pairs}
-use Rattle.counting.specs.Counting.{priced}
-use Rattle.counting.proofs.Adding.{fits-eight, count-none, count-more, count-all}
+use mathlib.Core.Path.{_≡_, ap, sym, subst, _∙_}
+use mathlib.Core.List.{_∷_}
+use Prim.Native.Nat.{_<_, _≤_, _+_}
+use borrow.Author.Needs.{needs}
+use lib.ListN.{length, drop}
+use Rattle.std.proofs.shelf.Lists.{getD-default, drop-more}
+use Rattle.instructions.specs.declared.Instruction.the-variants.{Again}
+use Rattle.machine.specs.Fits.{Fit}
+use Rattle.counting.proofs.Adding.{count-none, count-more, count-all}
 use Rattle.counting.proofs.pass.most.Needs as need
 
 pub add-sum-requires : need.add-sum-requires
-add-sum-requires c κs = record {
-  fits = fits-eight (c .args .program .now .header .used) (c .at .result) (c .args .program .now .few) (c .at .ensures .fits);
-  small = c .loop-place .inv .small;
-}
+add-sum-requires c κs =
+    let code = c .args .code .now in
+    let l = c .loop-place in
+    let lt : l .place < length (c .args .code .now) = search needs in
+    record {
+      fits = subst (Fit 32 8) (sym (getD-default code (l .place) _ Again lt)) (c .pre .fits (l .place) lt);
+      small = l .inv .small;
+    }
 
 pub loop-place-holds : need.loop-place-holds
-loop-place-holds c =
-    let s = c .args .program .now in
-    count-none _ (codeOf s) (code-pairs s) _ (c .new-parts .ensures)
+loop-place-holds c = count-none _ (c .args .code .now) (c .pre .pairs) _ (c .new-parts .ensures)
 
 pub loop-place-again : need.loop-place-again
 loop-place-again c =
-    let s = c .args .program .now in
-    let l : c .loop-place .place < length (codeOf s) = omega (arith, code-long s, ap (λ h. h .count) (c .header-place-end .ensures)) in
-    count-more _ (codeOf s) (code-pairs s) (c .at .ensures .here) l (c .loop-place .inv) (c .add-sum .ensures .pass) (c .add-sum .ensures .small)
+    let code = c .args .code .now in
+    let l = c .loop-place in
+    let lt : l .place < length (c .args .code .now) = search needs in
+    let here = drop-more code (l .place) Again lt ∙ ap (λ i. i ∷ drop (l .place + 1) code) (sym (getD-default code (l .place) _ Again lt)) in
+    count-more _ code (c .pre .pairs) here lt (l .inv) (c .add-sum .ensures .pass) (c .add-sum .ensures .small)
 
 pub returns : need.returns
 returns c =
-    let s = c .args .program .now in
-    count-all _ (codeOf s) (omega (arith, code-long s, ap (λ h. h .count) (c .header-place-end .ensures))) (c .loop-place .inv)
+    let le : length (c .args .code .now) ≤ c .loop-place .place = search needs in
+    count-all _ (c .args .code .now) le (c .loop-place .inv)

@@ -1,6 +1,6 @@
 // A refusal of what was given a list.
+use crate::refusal::Refusal;
 use instructions::Instruction;
-use program::refusal::Refusal;
 
 /// What is refused, and the list that was handed in, as it was.
 #[derive(Drop)]

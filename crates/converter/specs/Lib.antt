@@ -1,0 +1,4 @@
+pub mod Conversion
+pub mod Refusing
+pub mod Converting
+pub mod Theorems
