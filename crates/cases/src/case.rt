@@ -21,6 +21,7 @@ use layered::leaf::LeafMemory;
 use layered::pile::Pile;
 use layered::pile::into_leaf;
 use machine::visit::Visit;
+use makes::named::make;
 use makes::named::pile;
 use makes::shown::Seen;
 use makes::shown::SeenDisplay;
@@ -108,7 +109,12 @@ pub fn run(heap: Global, room: &mut Room, text: &str) -> Result<Report, AllocErr
     Ok(report)
 }
 
-fn run_case(heap: Global, room: &mut Room, case: Case, report: &mut Report) -> Result<(), AllocError>
+fn run_case(
+    heap: Global,
+    room: &mut Room,
+    case: Case,
+    report: &mut Report,
+) -> Result<(), AllocError>
     ensures { λ _. ⌜ (vec-len (now (report .entry) .notes) ≤ 3 → vec-len (now (report .exit) .notes) ≤ 3) ⌝ }
 {
     let got = came(heap, room, case)?;
@@ -205,9 +211,12 @@ fn plan_case(heap: Global, case: Case) -> Result<String, AllocError> {
 
 // The memory that the case names, with its cells.
 fn pile_of(heap: Global, case: Case) -> Result<Option<Pile>, AllocError> {
-    match (case.value("mem"), case.value("cells")) {
-        (Some(name), Some(cells)) => Ok(pile(heap, name, cells)?.ok()),
-        _ => Ok(None),
+    let (Some(name), Some(cells)) = (case.value("mem"), case.value("cells")) else {
+        return Ok(None);
+    };
+    match make(name) {
+        Ok(make) => pile(heap, make, cells),
+        Err(_) => Ok(None),
     }
 }
 
@@ -233,7 +242,10 @@ fn run_program(heap: Global, case: Case) -> Result<String, AllocError> {
     let (Some(entry), Some(room)) = (entry_of(heap, case)?, case.length("vcap")) else {
         return Outcome::Unreadable.to_string(heap);
     };
-    let mut visits = vec![in heap; Visit { place: 0, choice: 0 }; room]?;
+    let mut visits = vec![in heap; Visit {
+        place: 0,
+        choice: 0
+    }; room]?;
     match run::run(&program, &mut memory, &entry, &mut visits) {
         Ok(outcome) => {
             visits.truncate(outcome.steps);
@@ -243,7 +255,12 @@ fn run_program(heap: Global, case: Case) -> Result<String, AllocError> {
     }
 }
 
-fn ran(heap: Global, outcome: run::Outcome, visits: &[Visit], memory: Pile) -> Result<String, AllocError> {
+fn ran(
+    heap: Global,
+    outcome: run::Outcome,
+    visits: &[Visit],
+    memory: Pile,
+) -> Result<String, AllocError> {
     let seen = Seen { memory: &memory }.to_string(heap)?;
     let cells = into_leaf(memory).into_cells(heap)?;
     let cells = Words { words: &cells };
@@ -256,5 +273,8 @@ fn ran(heap: Global, outcome: run::Outcome, visits: &[Visit], memory: Pile) -> R
         Some(place) => format!(heap, "{place}")?,
         None => format!(heap, "-")?,
     };
-    format!(heap, "ok regs={registers} steps={steps} marks={marks} fault={fault} visits={visits} seen={seen} cells={cells}")
+    format!(
+        heap,
+        "ok regs={registers} steps={steps} marks={marks} fault={fault} visits={visits} seen={seen} cells={cells}"
+    )
 }

@@ -1,7 +1,7 @@
 // Runs case files and prints how many of their cases agree.
+use cases::case;
 use cases::named::Named;
 use cases::named::NamedDisplay;
-use cases::case;
 use std::alloc::AllocError;
 use std::alloc::Global;
 use std::env;
