@@ -11,69 +11,25 @@ const REPEAT_999: [u8; 8] = [19, 0, 1, 0, 231, 3, 0, 0];
 
 const REPEAT_1000: [u8; 8] = [19, 0, 1, 0, 232, 3, 0, 0];
 
-// An if with two arms, which set register 0.
-const CHOICE: &'static [[u8; 8]] = &[
-    [16, 0, 1, 0, 0, 0, 0, 0],
-    [0, 0, 0, 0, 7, 0, 0, 0],
-    [17, 0, 0, 0, 0, 0, 0, 0],
-    [0, 0, 0, 0, 9, 0, 0, 0],
-    [18, 0, 0, 0, 0, 0, 0, 0],
-];
-
-const ARM: Case = Case {
-    set: &[],
-    body: CHOICE,
-    word: 5,
-    cells: 0,
-    marks: 0,
-    visits: 4,
-    answer: (0, 4, 0, 7, 0),
-};
-
-// A load from a table of four cells.
-const LOAD: Case = Case {
+// A load from a table of four cells, past its end.
+const PAST: Case = Case {
     set: &[(2, 1), (8, 4)],
     body: &[[14, 0, 1, 0, 0, 0, 0, 0]],
-    word: 3,
+    word: 4,
     cells: 4,
     marks: 1,
     visits: 1,
-    answer: (0, 1, 1, 77, 0),
+    answer: (0, 1, 0, 0, 1),
 };
 
-const CASES: [Case; 9] = [
-    ARM,
-    Case {
-        word: 0,
-        answer: (0, 3, 0, 9, 0),
-        ..ARM
-    },
-    LOAD,
-    Case {
-        word: 4,
-        answer: (0, 1, 0, 0, 1),
-        ..LOAD
-    },
-    Case {
-        marks: 0,
-        answer: (25, 0, 0, 0, 0),
-        ..LOAD
-    },
-    Case {
-        visits: 0,
-        answer: (28, 0, 0, 0, 0),
-        ..LOAD
-    },
-    Case {
-        cells: 3,
-        answer: (21, 0, 0, 0, 0),
-        ..LOAD
-    },
+const CASES: [Case; 3] = [
+    PAST,
+    // too many steps, before anything that the memory lacks
     Case {
         body: &[REPEAT_999, REPEAT_1000, AGAIN, AGAIN],
         cells: 3,
         answer: (14, 0, 0, 0, 0),
-        ..LOAD
+        ..PAST
     },
     // a converted program with brackets, and registers past 15
     Case {
