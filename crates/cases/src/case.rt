@@ -39,7 +39,7 @@ use trials::answer::Answer;
 use trials::room::Room;
 
 /// The longest list that a case may ask for: longer than any that makes a difference.
-const LONGEST_LIST: usize = 1_000_000;
+const LONGEST_LIST: usize = 2_000_000;
 
 /// `KIND ID NAME=VALUE NAME=VALUE .. -> EXPECTED`
 #[derive(Clone, Copy)]
@@ -80,7 +80,7 @@ impl<'a> Case<'a> {
 
     /// The length of a list that is given under a name.
     pub fn length(self, name: &str) -> Option<usize>
-        ensures { λ r. ⌜ found r (λ n. n ≤ 1000000) ⌝ }
+        ensures { λ r. ⌜ found r (λ n. n ≤ 2000000) ⌝ }
     {
         let length = self.value(name)?.parse::<usize>().ok()?;
         if length <= LONGEST_LIST {
