@@ -1,4 +1,6 @@
 // A memory of 1,024 cells in four banks, which shows only the row of each cell.
+#![tactic(auto)]
+
 ghost use Rattle.std.specs.Prelude.{◌≡◌, ℕ, ◌<◌, [], length, replicate, IfOk, slice_index_or};
 ghost use Rattle.banked.specs.Banks.{cells_of, banked};
 ghost use Rattle.std.proofs.Common.{rules, arith};

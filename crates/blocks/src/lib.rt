@@ -1,5 +1,7 @@
 // Case files of blocks: each block names a memory, and then has calls to it with the answers that are
 // expected, the marks seen, and the cells at the end.
+#![tactic(auto)]
+
 ghost use Rattle.std.specs.Prelude.{◌≤◌, IfOk};
 
 use layered::pile;

@@ -1,4 +1,6 @@
 // Case files: each line a case with the answer that is expected, run and held to it.
+#![tactic(auto)]
+
 pub mod case;
 pub mod labels;
 pub mod named;

@@ -1,4 +1,6 @@
 // The converter: a source becomes a program without secret ifs, or is refused.
+#![tactic(auto)]
+
 ghost use Rattle.std.specs.Prelude.{◌≡◌, ℕ, ◌≤◌, ◌++◌, length, drop, IfOk};
 ghost use Rattle.program.specs.Refusals.{refused_by};
 ghost use Rattle.machine.specs.Programs.{code_of};

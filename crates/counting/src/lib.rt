@@ -1,4 +1,6 @@
 // The most steps that a program can make, and the most marks that it can leave on a memory.
+#![tactic(auto)]
+
 ghost use Rattle.std.specs.Prelude.{◌≡◌, ◌≤◌, map, length};
 ghost use Rattle.machine.specs.Most.{each_step};
 ghost use Rattle.machine.specs.Programs.{code_of};

@@ -1,4 +1,6 @@
 // Whole runs: how far a run goes and what it counts, read off the nested blocks of its program.
+#![tactic(auto)]
+
 ghost use Rattle.std.specs.Prelude.{◌≡◌, nat_le};
 ghost use Rattle.execution.specs.Runs.{RunsEnd};
 

@@ -1,4 +1,6 @@
 // A memory over cells that are handed in, which shows the number of each cell.
+#![tactic(auto)]
+
 ghost use Rattle.std.specs.Prelude.{◌≡◌};
 ghost use Rattle.flat.specs.Flat.{flat};
 ghost use Rattle.std.proofs.Common.{rules};

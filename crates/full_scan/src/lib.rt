@@ -1,4 +1,6 @@
 // A layer that touches every offset of a table at each access, so that none is given away.
+#![tactic(auto)]
+
 ghost use Rattle.std.specs.Prelude.{◌≡◌, ◌+◌, ◌*◌, ◌≤◌, if◌then◌else◌, slice_index, slice_set};
 ghost use Rattle.memory.specs.declared.Access.TheVariants.{Read, Write};
 ghost use Rattle.memory.specs.Accesses.{read_answer, read_after, write_answer, write_after};

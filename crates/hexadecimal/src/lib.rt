@@ -1,4 +1,6 @@
 // Bytes as pairs of hexadecimal digits, the high one first.
+#![tactic(auto)]
+
 ghost use Rattle.std.specs.Prelude.{◌≡◌, ℕ, List, IfOk, MatchBool};
 ghost use Rattle.hexadecimal.specs.Spelling.{digit_of, byte_of, Spells};
 

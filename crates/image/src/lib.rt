@@ -1,3 +1,5 @@
 // Program images: reading and writing.
+#![tactic(auto)]
+
 pub mod reader;
 pub mod writer;

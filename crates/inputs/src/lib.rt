@@ -1,4 +1,6 @@
 // What a run starts from: entry registers, and the words of the tables.
+#![tactic(auto)]
+
 ghost use Rattle.std.specs.Prelude.{◌≡◌, false, replicate, IfOk, if◌then◌else◌, vec_len, nat_lt, slice_set};
 ghost use Rattle.program.specs.Headers.{first_cell};
 

@@ -1,4 +1,5 @@
 // The instruction set. Words have 32 bits.
+#![tactic(auto)]
 
 /// A register's number: 0 to 15 in a source, 0 to 31 in a converted program.
 pub type Register = u8;

@@ -1,4 +1,6 @@
 // Where each bracket of a program jumps to, worked out once for a run.
+#![tactic(auto)]
+
 ghost use Rattle.std.specs.Prelude.{◌≡◌, ◌<◌};
 ghost use Rattle.stack.specs.Held.{held};
 ghost use Rattle.machine.specs.Programs.{code_of};

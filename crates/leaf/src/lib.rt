@@ -1,4 +1,6 @@
 // What memories with cells of their own share: a list for the marks seen, which is handed in.
+#![tactic(auto)]
+
 ghost use Rattle.std.specs.Prelude.{◌≡◌, ◌+◌, ◌-◌, ◌<◌, ◌≤◌, take, slice_set};
 ghost use Rattle.std.specs.List.{slice_get};
 ghost use Rattle.leaf.specs.Leaves.{limit_of};

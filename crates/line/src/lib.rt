@@ -1,4 +1,6 @@
 // A layer that shows only the line of each mark below it, as a cache does.
+#![tactic(auto)]
+
 ghost use Rattle.std.specs.Prelude.{◌≡◌, ◌≤◌, min};
 ghost use Rattle.line.specs.Line.{line_over};
 ghost use Rattle.line.specs.Lines.{line_lawful};

@@ -1,4 +1,6 @@
 // Programs and refusals as text for people.
+#![tactic(auto)]
+
 pub mod heading;
 pub mod label;
 pub mod line;

@@ -1,4 +1,6 @@
 // Memories that are named by text, and calls to them.
+#![tactic(auto)]
+
 pub mod built;
 pub mod call;
 pub mod make;

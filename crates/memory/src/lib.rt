@@ -1,5 +1,7 @@
 // What a memory is: cells that are read and written, and a list of the marks that an observer has
 // seen of it.
+#![tactic(auto)]
+
 ghost use Rattle.std.specs.Prelude.{◌≡◌, length};
 ghost use Rattle.std.specs.List.{slice_get};
 ghost use Rattle.memory.specs.Description.{Description, free, cleared};

@@ -1,4 +1,6 @@
 // The table of open repeats, and how a repeat and its again move a run.
+#![tactic(auto)]
+
 ghost use Rattle.std.specs.Prelude.{◌≡◌, [], ◌∷◌, ◌<◌, ◌≤◌, length};
 ghost use Rattle.stack.specs.Items.{items, below};
 ghost use Rattle.machine.specs.Machine.{open_at, lowered};

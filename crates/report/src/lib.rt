@@ -1,3 +1,5 @@
 // What a program counts, and what a run of it leaves, in lines.
+#![tactic(auto)]
+
 pub mod bounds;
 pub mod ran;

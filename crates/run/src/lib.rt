@@ -1,4 +1,6 @@
 // A program's run on a memory.
+#![tactic(auto)]
+
 ghost use Rattle.std.specs.Prelude.{◌≡◌, ◌<◌, length, Err};
 ghost use Rattle.program.specs.Refusals.{refusal};
 ghost use Rattle.machine.specs.States.{held};

@@ -1,4 +1,6 @@
 // A stack of at most eight: what is open around a place.
+#![tactic(auto)]
+
 ghost use Rattle.std.specs.Prelude.{◌≡◌, ℕ, ◌≤◌, [], ◌∷◌, length, if◌then◌else◌, nat_lt};
 ghost use Rattle.stack.specs.Items.{items, top, below, swapped};
 

@@ -1,3 +1,5 @@
 // One step of a run.
+#![tactic(auto)]
+
 pub mod access;
 pub mod step;

@@ -1,5 +1,7 @@
 // Reads an image from standard input and shows the program in it, stage by stage: its listing with
 // what is secret where, what it counts at the most, and, if inputs are given, a run.
+#![tactic(auto)]
+
 use anyhow::anyhow;
 use flat::Flat;
 use image::{reader, writer};

@@ -1,4 +1,6 @@
 // How many agree, of how many.
+#![tactic(auto)]
+
 ghost use Rattle.std.specs.Prelude.{◌≡◌, ◌+◌, ◌-◌, ◌^◌, min, ◌++◌, if◌then◌else◌, Some, codes, decimal, ◌==◌};
 
 use std::fmt;

@@ -1,4 +1,6 @@
 // Runs case files and prints how many of their cases agree.
+#![tactic(auto)]
+
 use anyhow::anyhow;
 use cases::case;
 use cases::named::Named;

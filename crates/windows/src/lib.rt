@@ -1,4 +1,6 @@
 // The tables of a program as windows of cells, worked out once for a run.
+#![tactic(auto)]
+
 ghost use Rattle.std.specs.Prelude.{◌≡◌, ◌<◌, length, slice_index_or};
 ghost use Rattle.program.specs.Headers.{cells_of};
 ghost use Rattle.windows.specs.Windows.{no_window, Laid};
