@@ -2,7 +2,7 @@
 #![tactic(auto)]
 
 pub mod case;
-pub mod labels;
+pub mod plans;
 pub mod named;
 pub mod outcome;
 pub mod visits;

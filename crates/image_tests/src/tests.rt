@@ -1,8 +1,8 @@
 // Small images, made from what differs from an empty source, and what reading them answers.
-mod brackets;
-mod fields;
+mod bounds;
 mod headers;
 mod lists;
+mod pairs;
 
 use image::reader::read;
 use instructions::Instruction;

@@ -1,5 +1,5 @@
 -- The theorems on the smallest labels, and the cases by hand.
-use Rattle.std.proofs.Common.{◌≡◌, ℕ, zero, suc, ◌+◌, ◌<◌, Bool, true, false, List, [], ◌∷◌, length, get_or, drop, sym, refl, ap, ◌∙◌, subst, arith}
+use Rattle.std.proofs.Common.{◌≡◌, ℕ, zero, suc, ◌+◌, ◌-◌, ◌*◌, ◌<◌, ◌≤◌, Bool, true, false, List, [], ◌∷◌, length, get_or, drop, replicate, sym, refl, ap, ◌∙◌, subst, arith}
 use Rattle.instructions.specs.declared.Instruction.{Instruction}
 use Rattle.instructions.specs.declared.Instruction.TheVariants.{Else, Again}
 use Rattle.program.specs.declared.opening.Opening.{Opening}
@@ -9,7 +9,7 @@ use Rattle.program.specs.Bounds.{bound}
 use Rattle.labels.specs.Kinds.{LabelKind, Within, Lawful, secrecy}
 use Rattle.labels.specs.Rules.{Way, Each, else_ways, Sub, marked, ways, Along, Keeps, Solves, Smallest}
 use Rattle.labels.specs.Sets.{bits, sets}
-use Rattle.labels.specs.Plans.{labels_of}
+use Rattle.labels.specs.Plans.{settled, labels_of}
 use Rattle.labels.specs.Theorems.{SmallestExists, Theory, with_const, without_const, ArmsByHand}
 use Rattle.labels.proofs.Plain.{plain}
 use Rattle.labels.proofs.Solving.{rising, reached, unique}
@@ -55,13 +55,23 @@ bound_without (suc (suc zero)) h = refl
 bound_without (suc (suc (suc zero))) h = refl
 bound_without (suc (suc (suc (suc p)))) h = refl
 
-reckoned_with : labels_of (λ t. false) 2 with_const ≡ 2 ∷ 2 ∷ 6 ∷ 6 ∷ 7 ∷ 7 ∷ []
+-- the passes allowed are more than four; how many more is not reckoned
+four_below : (most : ℕ) → 4 ≤ most → (k : ℕ) × (most ≡ suc (suc (suc (suc k))))
+four_below most h = (most - 4, omega arith)
+
+-- what is reckoned in four passes, whatever number of further ones is allowed, is what is reckoned
+in_four : (tables : ℕ → Bool) (entry : ℕ) (code : List Instruction) (reckoned : List ℕ)
+    → ((k : ℕ) → settled tables code (suc (suc (suc (suc k)))) (entry ∷ replicate (length code) 0) ≡ reckoned) → labels_of tables entry code ≡ reckoned
 unfolding labels_of
-reckoned_with = refl
+in_four tables entry code reckoned h =
+    let p = four_below (65536 * (length code + 1)) (omega arith) in
+    ap (λ most. settled tables code most (entry ∷ replicate (length code) 0)) p.1 ∙ h p.0
+
+reckoned_with : labels_of (λ t. false) 2 with_const ≡ 2 ∷ 2 ∷ 6 ∷ 6 ∷ 7 ∷ 7 ∷ []
+reckoned_with = in_four (λ t. false) 2 with_const (2 ∷ 2 ∷ 6 ∷ 6 ∷ 7 ∷ 7 ∷ []) (λ k. refl)
 
 reckoned_without : labels_of (λ t. false) 2 without_const ≡ 2 ∷ 2 ∷ 2 ∷ 3 ∷ 3 ∷ []
-unfolding labels_of
-reckoned_without = refl
+reckoned_without = in_four (λ t. false) 2 without_const (2 ∷ 2 ∷ 2 ∷ 3 ∷ 3 ∷ []) (λ k. refl)
 
 pub arms_by_hand : ArmsByHand
 arms_by_hand = record {

@@ -3,8 +3,8 @@ use Rattle.std.specs.Prelude.{vec_items}
 use Rattle.memory.specs.Description.{Description}
 use Rattle.flat.specs.Flat.{flat}
 use Rattle.banked.specs.Banks.{banked}
-use Rattle.layered.specs.declared.leaf.Leaf.{Leaf}
-use Rattle.layered.specs.declared.leaf.Leaf.TheVariants.{Flat, Banked}
+use Rattle.layered.specs.declared.leaves.Leaf.{Leaf}
+use Rattle.layered.specs.declared.leaves.Leaf.TheVariants.{Flat, Banked}
 
 abbrev pub leaf_model : Leaf → Description
 leaf_model (Flat m) = flat (vec_items m.cells) (vec_items m.seen.list) m.seen.count

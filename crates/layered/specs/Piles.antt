@@ -1,7 +1,7 @@
 -- Every pile of up to four layers.
 use Rattle.memory.specs.Description.{Description}
 use Rattle.layered.specs.declared.layer.Layered.{Layered}
-use Rattle.layered.specs.declared.leaf.Leaf.{Leaf}
+use Rattle.layered.specs.declared.leaves.Leaf.{Leaf}
 use Rattle.layered.specs.declared.pile.Layers.{Layers}
 use Rattle.layered.specs.Layers.{layered, over}
 use Rattle.layered.specs.Leaves.{leaf_model}

@@ -2,5 +2,5 @@
 #![tactic(auto)]
 
 pub mod layer;
-pub mod leaf;
+pub mod leaves;
 pub mod pile;

@@ -4,7 +4,7 @@ ghost use Rattle.layered.specs.Leaves.{leaf_model};
 ghost use Rattle.layered.specs.Piles.{pile_model, piled, leaf_of};
 
 use crate::layer::{Layer, Layered};
-use crate::leaf::Leaf;
+use crate::leaves::Leaf;
 
 pub type Pile = Layered<Layered<Layered<Layered<Leaf>>>>;
 

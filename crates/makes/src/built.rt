@@ -7,7 +7,7 @@ ghost use Rattle.makes.specs.Makes.{begins, filled};
 use crate::make::{Kind, Make};
 use banked::Banked;
 use flat::Flat;
-use layered::leaf::Leaf;
+use layered::leaves::Leaf;
 use layered::pile;
 use layered::pile::Pile;
 use memory::Mark;

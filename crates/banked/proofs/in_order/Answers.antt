@@ -8,7 +8,7 @@ pub loop-cell-preserved : goal.loop-cell-preserved
 loop-cell-preserved c =
     let w = word_at c.args.banks.now in
     let n = c.loop-cell.cell in
-    c.in-ok-push.ensures.items ∙ ap (λ xs. xs ++ w n ∷ []) c.loop-cell.invariant ∙ sym (map-range_with_len_more w 0 n n (omega arith))
+    c.in_ok-push.ensures.items ∙ ap (λ xs. xs ++ w n ∷ []) c.loop-cell.invariant ∙ sym (map-range_with_len_more w 0 n n (omega arith))
 
 pub returns : goal.returns
 returns c = c.loop-cell.invariant ∙ in_order c.args.banks.now c.loop-cell.cell (omega arith)

@@ -7,13 +7,13 @@ use Rattle.counting.proofs.Sums.{summed, ends_by}
 use Rattle.counting.proofs.Countables.{countable}
 use Rattle.counting.proofs.most_steps.Goals as goal
 
-pub most-steps-of-requires : goal.most-steps-of-requires
-most-steps-of-requires c = subst Countable (sym c.code.ensures) (countable c.args.program.now)
+pub most_steps_of-requires : goal.most_steps_of-requires
+most_steps_of-requires c = subst Countable (sym c.code.ensures) (countable c.args.program.now)
 
 pub returns : goal.returns
 returns c =
     let s = c.args.program.now in
-    let e : c.most-steps-of.result ≡ most_steps (code_of s) = c.most-steps-of.ensures ∙ ap most_steps c.code.ensures in
+    let e : c.most_steps_of.result ≡ most_steps (code_of s) = c.most_steps_of.ensures ∙ ap most_steps c.code.ensures in
     record {
       value = e;
       sum = subst (Sum each_step (code_of s)) (sym e) (summed each_step (code_of s) (code_pairs s));

@@ -14,4 +14,4 @@ returns g c =
       | in-Read w ↦ (let t : turn_cost cost c.args.access len ≡ cost Read len = ap (λ k. turn_cost cost k len) w.in-Read.is in omega arith)
       | in-Write w ↦ (let t : turn_cost cost c.args.access len ≡ cost Read len + cost Write len = ap (λ k. turn_cost cost k len) w.in-Write.is in omega arith)
     ] in
-    c.min.ensures ∙ ap (λ n. min n 1000001) c.saturating-mul.ensures ∙ stopped len (turn_cost cost c.args.access len) c.match-access.turn turn
+    c.min.ensures ∙ ap (λ n. min n 1000001) c.saturating_mul.ensures ∙ stopped len (turn_cost cost c.args.access len) c.match-access.turn turn

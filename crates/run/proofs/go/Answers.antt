@@ -56,18 +56,18 @@ stepped g c =
     turn_step s.header.tables (code_of s) c.lay-windows.result c.lay-windows.ensures.each c.resolve-jumps.result c.resolve-jumps.ensures s.eight _ _ _ _ _ _ (g.met.M.Memory.lawful c.turns.memory) c.turns.invariant.wide _ _ _ _
     c.at.result f.depth c.at.ensures.here fit ready may c.step-moved.ensures
 
-pub offset-bounds-visits-steps : goal.offset-bounds-visits-steps
-offset-bounds-visits-steps g c = let b = few g (goal.at.offset-bounds-visits-steps g c).After-step-moved in omega (arith, c.requires.short)
+pub offset_bounds-visits-steps : goal.offset_bounds-visits-steps
+offset_bounds-visits-steps g c = let b = few g (goal.at.offset_bounds-visits-steps g c).After-step-moved in omega (arith, c.requires.short)
 
 pub bounds-visits-steps : goal.bounds-visits-steps
 bounds-visits-steps g c = let b = room g (goal.at.bounds-visits-steps g c).After-step-moved in omega (arith, c.turns.auto.visits)
 
-pub overflow-add-steps : goal.overflow-add-steps
-overflow-add-steps g c = let b = few g (goal.at.overflow-add-steps g c).After-step-moved in omega (arith, c.requires.short)
+pub overflow_add-steps : goal.overflow_add-steps
+overflow_add-steps g c = let b = few g (goal.at.overflow_add-steps g c).After-step-moved in omega (arith, c.requires.short)
 
-pub overflow-sub-marks : goal.overflow-sub-marks
-overflow-sub-marks g c =
-    let a = (goal.at.overflow-sub-marks g c).After-step-moved in
+pub overflow_sub-marks : goal.overflow_sub-marks
+overflow_sub-marks g c =
+    let a = (goal.at.overflow_sub-marks g c).After-step-moved in
     let m = seen_more (kept_more (room g a) a.turns.invariant.kept (stepped g a) c.visit.ensures) in
     omega (arith, c.marks.ensures, c.marks-before.ensures)
 
@@ -90,8 +90,8 @@ turns-preserved g c =
     let a = (goal.at.turns-preserved g c).After-step-moved in
     turn_more (nest c.args.program.now) (g.met.M.Memory.lawful c.args.memory.now) c.requires c.turns.invariant (before g a) c.if-moved-eq-FAULT.false (stepped g a) c.visit.ensures
 
-pub overflow-sub-marks-2 : goal.overflow-sub-marks-2
-overflow-sub-marks-2 g c = let m = seen_more c.turns.invariant.kept in omega (arith, c.marks-2.ensures, c.marks-before.ensures)
+pub overflow_sub-marks-2 : goal.overflow_sub-marks-2
+overflow_sub-marks-2 g c = let m = seen_more c.turns.invariant.kept in omega (arith, c.marks-2.ensures, c.marks-before.ensures)
 
 pub returns : goal.returns
 returns g c =

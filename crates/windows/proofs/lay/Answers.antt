@@ -8,8 +8,8 @@ use Rattle.windows.specs.Windows.{window_of}
 use Rattle.windows.proofs.Laying.{first_more, within_all, laid_more}
 use Rattle.windows.proofs.lay.Goals as goal
 
-pub overflow-add-first : goal.overflow-add-first
-overflow-add-first c =
+pub overflow_add-first : goal.overflow_add-first
+overflow_add-first c =
     let s = c.args.program.now in
     let ts = c.header.result.tables in
     let e : length ts ≡ 8 = ap (λ h. length h.tables) c.header.ensures ∙ s.eight in

@@ -40,7 +40,7 @@ loop-place-preserved c =
     let ks = held l.masks.openings in
     let lt : l.place < length c.args.code.now = search rules in
     let x = get_or_default code l.place _ Again lt in (
-      wrong_pass (secret_tables c.args.tables.now) (hidden_by c.args.hides) (sets c.args.plan.now) code ks _ l.place _ _ _ lt x c.masked.ensures c.in-default.ensures c.pass.ensures l.invariant.0,
+      wrong_pass (secret_tables c.args.tables.now) (hidden_by c.args.hides) (sets c.args.plan.now) code ks _ l.place _ _ _ lt x c.masked.ensures c.in_default.ensures c.pass.ensures l.invariant.0,
       ap unmarked c.pass.ensures ∙ around_more secrecy code l.place ks _ lt x _ l.invariant.1,
     )
 

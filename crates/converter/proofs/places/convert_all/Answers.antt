@@ -14,8 +14,8 @@ use Rattle.converter.specs.Conversion.{convert}
 use Rattle.converter.proofs.Passing.{convert_more, convert_end, none_written}
 use Rattle.converter.proofs.places.convert_all.Goals as goal
 
-pub convert-one-requires : goal.convert-one-requires
-convert-one-requires c =
+pub convert_one-requires : goal.convert_one-requires
+convert_one-requires c =
     let code = c.args.code.now in
     let l = c.loop-place in
     let lt : l.place < length c.args.code.now = search rules in
@@ -45,9 +45,9 @@ loop-place-preserved c =
     let ks = held l.masks.openings in
     let lt : l.place < length c.args.code.now = search rules in
     let x = get_or_default code l.place _ Again lt in (
-      convert_more (lengths c.args.tables.now) (sets c.args.plan.now) code ks _ l.place _ _ _ _ lt x c.convert-one.ensures.written c.pass.ensures l.invariant.0,
+      convert_more (lengths c.args.tables.now) (sets c.args.plan.now) code ks _ l.place _ _ _ _ lt x c.convert_one.ensures.written c.pass.ensures l.invariant.0,
       ap unmarked c.pass.ensures ∙ around_more secrecy code l.place ks _ lt x _ l.invariant.1,
-      omega (arith, l.invariant.2, c.convert-one.ensures.count),
+      omega (arith, l.invariant.2, c.convert_one.ensures.count),
     )
 
 pub returns : goal.returns

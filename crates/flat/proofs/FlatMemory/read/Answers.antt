@@ -7,16 +7,16 @@ use Rattle.flat.specs.Flat.{flat, counting, number_of}
 use Rattle.flat.proofs.Counting.{length-counting}
 use Rattle.flat.proofs.FlatMemory.read.Goals as goal
 
-pub overflow-cast-cell : goal.overflow-cast-cell
-overflow-cast-cell c =
+pub overflow_cast-cell : goal.overflow_cast-cell
+overflow_cast-cell c =
     let l = length-counting (vec_items c.args.self.now.cells) in
-    let b = c.in-default.ensures.bounds refl in
+    let b = c.in_default.ensures.bounds refl in
     record { fits = omega arith }
 
 pub index-requires : goal.index-requires
 index-requires c =
     let l = length-counting (vec_items c.args.self.now.cells) in
-    let b = c.in-default.ensures.bounds refl in
+    let b = c.in_default.ensures.bounds refl in
     omega arith
 
 pub returns : goal.returns
@@ -26,8 +26,8 @@ returns c =
     let cells = vec_items m.cells in
     let list = vec_items m.seen.list in
     let l = length-counting cells in
-    let b = c.in-default.ensures.bounds refl in
-    let fine = not_denied (flat cells list m.seen.count) Read a.base a.len a.off c.size.ensures refl c.free.ensures c.denial.ensures.value c.in-default.is in
+    let b = c.in_default.ensures.bounds refl in
+    let fine = not_denied (flat cells list m.seen.count) Read a.base a.len a.off c.size.ensures refl c.free.ensures c.denial.ensures.value c.in_default.is in
     let room = leaf_room number_of (counting cells) list m.seen.count m.seen.room (omega arith) in
     let at : a.base + a.off < 65536 = omega arith in
     let lt : a.base + a.off < length cells = omega arith in

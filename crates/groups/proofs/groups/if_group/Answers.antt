@@ -5,6 +5,6 @@ use Rattle.groups.proofs.groups.if_group.Goals as goal
 
 pub returns : goal.returns
 returns c = record {
-  count = omega (arith, c.and-mask.ensures.count, c.put.ensures.count);
-  written = then_two _ _ _ (is_set c.args.own_val c.args.a) (and_mask c.args.mask c.args.own_val) c.put.ensures.written c.and-mask.ensures.written;
+  count = omega (arith, c.and_mask.ensures.count, c.put.ensures.count);
+  written = then_two _ _ _ (is_set c.args.own c.args.a) (and_mask c.args.mask c.args.own) c.put.ensures.written c.and_mask.ensures.written;
 }

@@ -20,19 +20,19 @@ returns-then-image-ne1 c =
     ] in
     sym (cond-false (header_good bs) _ _ no)
 
-pub returns-in-default : goal.returns-in-default
+pub returns-in_default : goal.returns-in_default
 unfolding header_good
-returns-in-default c =
+returns-in_default c =
     let bs = c.args.image.now in
-    let kind : leb (get_or bs 3 0) 1 ≡ false = cond_none _ _ c.in-default.ensures in
+    let kind : leb (get_or bs 3 0) 1 ≡ false = cond_none _ _ c.in_default.ensures in
     let no : header_good bs ≡ false = grind (arith, nat_tests) in
     sym (cond-false (header_good bs) _ _ no)
 
-pub returns-in-default-tables : goal.returns-in-default-tables
+pub returns-in_default-tables : goal.returns-in_default-tables
 unfolding header_good
-returns-in-default-tables c =
+returns-in_default-tables c =
     let bs = c.args.image.now in
-    let tables : all_below (entry_good bs (get_or bs 2 0)) 8 ≡ false = cond_none _ _ c.in-default-tables.ensures in
+    let tables : all_below (entry_good bs (get_or bs 2 0)) 8 ≡ false = cond_none _ _ c.in_default-tables.ensures in
     let no : header_good bs ≡ false = grind (arith, nat_tests) in
     sym (cond-false (header_good bs) _ _ no)
 
@@ -55,9 +55,9 @@ returns-then-count-longest c =
     ] in
     sym (cond-false (header_good bs) _ _ no)
 
-pub returns-then-rest-is-zero : goal.returns-then-rest-is-zero
+pub returns-then-rest_is_zero : goal.returns-then-rest_is_zero
 unfolding header_good header_at
-returns-then-rest-is-zero c =
+returns-then-rest_is_zero c =
     let bs = c.args.image.now in
     let of_kind = cond_some (leb (get_or bs 3 0) 1) (kind_of (get_or bs 3 0)) c.in-Some.kind c.in-Some.ensures in
     let of_tables = cond_some (all_below (entry_good bs (get_or bs 2 0)) 8) (tables_at bs) c.in-Some-tables.tables c.in-Some-tables.ensures in
@@ -65,14 +65,14 @@ returns-then-rest-is-zero c =
     let cells : c.cells.result ≡ cells_of (tables_at bs) = c.cells.ensures ∙ ap cells_of of_tables.1 in
     let few : leb (pair_at bs 4) (longest (kind_of (get_or bs 3 0))) ≡ true = le-leb _ _ (omega arith) in
     let small : leb (cells_of (tables_at bs)) 4096 ≡ true = le-leb _ _ (omega arith) in
-    let rest : true ≡ all_below (zero_from40 bs) 24 = c.if-rest-is-zero.ensures in
+    let rest : true ≡ all_below (zero_from40 bs) 24 = c.if-rest_is_zero.ensures in
     let good : header_good bs ≡ true = grind (arith, nat_tests) in
     cc (cond-true (header_good bs) (Some (header_at bs)) None good, of_kind.1, of_tables.1)
 
-pub returns-else-rest-is-zero : goal.returns-else-rest-is-zero
+pub returns-else-rest_is_zero : goal.returns-else-rest_is_zero
 unfolding header_good
-returns-else-rest-is-zero c =
+returns-else-rest_is_zero c =
     let bs = c.args.image.now in
-    let rest : false ≡ all_below (zero_from40 bs) 24 = c.if-rest-is-zero.ensures in
+    let rest : false ≡ all_below (zero_from40 bs) 24 = c.if-rest_is_zero.ensures in
     let no : header_good bs ≡ false = grind (arith, nat_tests) in
     sym (cond-false (header_good bs) _ _ no)

@@ -11,10 +11,10 @@ use Rattle.header.proofs.decode.tables.Goals as goal
 none : Table
 none = record { length = 0; secret = false }
 
-pub returns-in-default : goal.returns-in-default
-returns-in-default c =
+pub returns-in_default : goal.returns-in_default
+returns-in_default c =
     let good = entry_good c.args.image.now c.args.used in
-    let bad : good c.loop-i.i ≡ false = cond_none _ _ c.in-default.ensures in
+    let bad : good c.loop-i.i ≡ false = cond_none _ _ c.in_default.ensures in
     sym (cond-false (all_below good 8) _ _ (all_false good 8 c.loop-i.i (omega arith) bad))
 
 pub loop-i-preserved : goal.loop-i-preserved

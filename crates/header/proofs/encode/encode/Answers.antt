@@ -6,4 +6,4 @@ pub returns : goal.returns
 returns c =
     let h = c.args.header.now in
     let eight : length h.tables ≡ 8 = search rules in
-    header_written h eight c.args.out.now c.write-start.new.out c.write-tables.new.out c.write-rest.new.out c.write-start.ensures c.write-tables.ensures c.write-rest.ensures
+    header_written h eight c.args.out.now c.write_start.new.out c.write_tables.new.out c.write_rest.new.out c.write_start.ensures c.write_tables.ensures c.write_rest.ensures

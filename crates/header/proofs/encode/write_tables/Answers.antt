@@ -15,7 +15,7 @@ pub loop-i-preserved : goal.loop-i-preserved
 loop-i-preserved c =
     let e = c.args.out.now in
     items_more entry_bytes 4 length_entry (take 8 e) e 8 (length-take-le 8 e (omega arith)) c.args.tables.now
-    c.loop-i.out c.write-entry.new.out c.loop-i.i _ _ c.loop-i-test.true c.loop-i.invariant c.write-entry.ensures (omega arith)
+    c.loop-i.out c.write_entry.new.out c.loop-i.i _ _ c.loop-i-test.true c.loop-i.invariant c.write_entry.ensures (omega arith)
 
 pub returns : goal.returns
 returns c =

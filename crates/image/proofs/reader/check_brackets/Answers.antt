@@ -8,14 +8,14 @@ use Rattle.image.specs.Images.{instructions}
 use Rattle.image.proofs.Loops.{brackets_more, brackets_stop, brackets_end}
 use Rattle.image.proofs.reader.check_brackets.Goals as goal
 
-pub returns-in-err-pass : goal.returns-in-err-pass
-returns-in-err-pass c =
-    let p = err_from_is_err_and c.from-residual.result c.from-residual.ensures.1 in
+pub returns-in_err-pass : goal.returns-in_err-pass
+returns-in_err-pass c =
+    let p = err_from_is_err_and c.from_residual.result c.from_residual.ensures.1 in
     let os = held c.loop-place.matcher.openings in
     let here = c.instruction.ensures ∙ ap decode c.at.ensures in
     rw (p.1, p.2)
-    (brackets_stop c.args.body.now c.args.n os c.loop-place.place c.loop-place-test.true c.loop-place.invariant c.in-err-pass.field-0.0
-    (c.in-err-pass.ensures.answer ∙ ap (wrong os c.loop-place.place) here))
+    (brackets_stop c.args.body.now c.args.n os c.loop-place.place c.loop-place-test.true c.loop-place.invariant c.in_err-pass.field-0.0
+    (c.in_err-pass.ensures.answer ∙ ap (wrong os c.loop-place.place) here))
 
 pub loop-place-preserved : goal.loop-place-preserved
 loop-place-preserved c =
@@ -23,8 +23,8 @@ loop-place-preserved c =
     let os = held c.loop-place.matcher.openings in
     let here = c.instruction.ensures ∙ ap decode c.at.ensures in
     let code = instructions c.args.body.now c.args.n in
-    ap (λ o. pairing o (p + 1) (drop (p + 1) code)) (c.in-ok-pass.ensures.after ∙ ap (λ i. past p i os) here)
-    ∙ brackets_more c.args.body.now c.args.n os p c.loop-place-test.true c.loop-place.invariant (c.in-ok-pass.ensures.answer ∙ ap (wrong os p) here)
+    ap (λ o. pairing o (p + 1) (drop (p + 1) code)) (c.in_ok-pass.ensures.after ∙ ap (λ i. past p i os) here)
+    ∙ brackets_more c.args.body.now c.args.n os p c.loop-place-test.true c.loop-place.invariant (c.in_ok-pass.ensures.answer ∙ ap (wrong os p) here)
 
 pub returns : goal.returns
 returns c =

@@ -37,7 +37,7 @@ returns-then-len-n c =
 
 -- the image is a list of bytes
 bytes : (c : After-fill) → Bytes c.args.image.now
-bytes c k = let fits = c.type-inv.image k in omega arith
+bytes c k = let fits = c.type_inv.image k in omega arith
 
 pub new-requires : goal.new-requires
 new-requires c =

@@ -14,9 +14,9 @@ returns c =
     let n = ap (λ h. 64 + 8 * h.count) same in
     let room : image_length p.header ≤ length e = omega (arith, n) in
     let first = c.encode.ensures ∙ ap (λ h. header_bytes h ++ drop 64 e) same in
-    let bytes = bytes_are p c.code.result.now e c.encode.new.out c.write-code.new.out c.code.ensures first c.write-code.ensures in
+    let bytes = bytes_are p c.code.result.now e c.encode.new.out c.write_code.new.out c.code.ensures first c.write_code.ensures in
     record {
       answer = ap (λ m. Ok m) n ∙ answered p (length e) room;
       bytes = bytes;
-      reread = subst (λ m. ReadAs (take m c.write-code.new.out) p) (sym n) (reread p e c.write-code.new.out bytes);
+      reread = subst (λ m. ReadAs (take m c.write_code.new.out) p) (sym n) (reread p e c.write_code.new.out bytes);
     }

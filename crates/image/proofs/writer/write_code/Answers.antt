@@ -15,7 +15,7 @@ pub loop-i-preserved : goal.loop-i-preserved
 loop-i-preserved c =
     let e = c.args.out.now in
     items_more instruction_bytes 8 length_instruction (take 64 e) e 64 (length-take-le 64 e (omega arith)) c.args.code.now
-    c.loop-i.out c.write.new.out c.loop-i.i _ _ c.loop-i-test.true c.loop-i.invariant (c.write.ensures ∙ ap bytes_of c.fields-of.ensures) (omega arith)
+    c.loop-i.out c.write.new.out c.loop-i.i _ _ c.loop-i-test.true c.loop-i.invariant (c.write.ensures ∙ ap bytes_of c.fields_of.ensures) (omega arith)
 
 pub returns : goal.returns
 returns c =

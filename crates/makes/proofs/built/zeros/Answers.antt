@@ -6,7 +6,7 @@ pub returns : goal.returns
 returns c =
     let n = c.args.count in
     let left : n - vec_len c.new-list.result ≡ n = let e = c.new-list.ensures.len in omega arith in
-    c.in-ok-resize.ensures.items
+    c.in_ok-resize.ensures.items
     ∙ ap (λ xs. take n xs ++ replicate (n - vec_len c.new-list.result) 0) c.new-list.ensures.items
     ∙ ap (λ xs. xs ++ replicate (n - vec_len c.new-list.result) 0) (take-nil n)
     ∙ ap (λ m. replicate m 0) left

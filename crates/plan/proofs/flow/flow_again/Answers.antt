@@ -13,6 +13,6 @@ returns-in-Some-Loop c =
     let q = c.in-Some-Loop.opened in
     let e : ways secrecy (held c.args.masks.now.openings) p Again ≡ way p (suc q) ∷ way p (suc p) ∷ way q (suc p) ∷ [] = search rules in
     record {
-      sets = c.carry-round.ensures.sets ∙ ap (λ ws. along secrecy ws (sets c.args.list.now)) (sym e);
-      grew = c.carry-round.ensures.grew;
+      sets = c.carry_round.ensures.sets ∙ ap (λ ws. along secrecy ws (sets c.args.list.now)) (sym e);
+      grew = c.carry_round.ensures.grew;
     }

@@ -10,5 +10,5 @@ returns c =
     let e = c.joined-new.ensures.value in
     record {
       sets = sets-raised l q c.joined-new.result _ c.requires c.joined-new.ensures.set;
-      grew = subst (λ v. Grew (not (eqb v (get_or l q 0))) l (set l q v)) (sym e) (grew_raise l q c.args.set _ c.requires (subst (λ v. v < 65536) e c.joined-new.type-inv) refl);
+      grew = subst (λ v. Grew (not (eqb v (get_or l q 0))) l (set l q v)) (sym e) (grew_raise l q c.args.set _ c.requires (subst (λ v. v < 65536) e c.joined-new.type_inv) refl);
     }

@@ -11,16 +11,16 @@ pub loop-preserved : goal.loop-preserved
 loop-preserved c =
     let h = c.args.header.now in
     let code = c.args.code.now in
-    subst (Rising secrecy (secret_tables h.tables) (bits h.secret_entry) code) (sym c.pass-over.ensures.sets)
+    subst (Rising secrecy (secret_tables h.tables) (bits h.secret_entry) code) (sym c.pass_over.ensures.sets)
     (rising secrecy plain (secret_tables h.tables) (bits h.secret_entry) code (sets c.loop.list) c.loop.invariant)
 
 pub loop-smaller : goal.loop-smaller
-loop-smaller c = c.pass-over.ensures.grew.less c.loop-test.true
+loop-smaller c = c.pass_over.ensures.grew.less c.loop-test.true
 
 pub returns : goal.returns
 returns c =
     let h = c.args.header.now in
     let code = c.args.code.now in
-    let same = c.pass-over.ensures.grew.same c.loop-test.false in
+    let same = c.pass_over.ensures.grew.same c.loop-test.false in
     subst (λ l. Smallest secrecy (secret_tables h.tables) (bits h.secret_entry) code (sets l)) (sym same)
-    (reached secrecy plain (secret_tables h.tables) (bits h.secret_entry) code (sets c.loop.list) c.loop.invariant (sym c.pass-over.ensures.sets ∙ ap sets same))
+    (reached secrecy plain (secret_tables h.tables) (bits h.secret_entry) code (sets c.loop.list) c.loop.invariant (sym c.pass_over.ensures.sets ∙ ap sets same))

@@ -4,8 +4,8 @@ use Rattle.stack.proofs.Stacking.{length-items}
 use Rattle.masks.proofs.Counting.{secrets_le}
 use Rattle.masks.proofs.masks.Masks.count.Goals as goal
 
-pub overflow-cast-result : goal.overflow-cast-result
-overflow-cast-result c =
+pub overflow_cast-result : goal.overflow_cast-result
+overflow_cast-result c =
     let s = c.args.self.now in
     let o = s.openings in
     let n = length-items o.cells o.depth (omega (arith, o.few, o.room)) in

@@ -1,7 +1,7 @@
 use Rattle.std.proofs.Common.{sym, ap, ◌∙◌}
 use Rattle.memory.specs.Accesses.{read_answer, read_after}
 use Rattle.layered.specs.Leaves.{leaf_model}
-use Rattle.layered.proofs.leaf.LeafMemory.read.Goals as goal
+use Rattle.layered.proofs.leaves.LeafMemory.read.Goals as goal
 
 pub returns-in-Flat : goal.returns-in-Flat
 returns-in-Flat c =
