@@ -2,8 +2,8 @@
 ghost use Rattle.std.specs.Prelude.{◌≡◌, ◌≤◌, IfSome, IfOk, vec_len};
 ghost use Rattle.cases.specs.Lines.{line_of};
 
-use crate::labels::Labels;
 use crate::outcome::{Outcome, Said};
+use crate::plans::Labels;
 use crate::visits::Visits;
 use counting::most_steps;
 use image::reader;

@@ -44,7 +44,7 @@ pub fn most_steps(program: &Program) -> usize
 
 // What an access of a kind to each table costs.
 fn costs<M: Memory>(memory: &M, access: Access, program: &Program) -> [usize; 8]
-    ensures each { result ≡ map (λ t. (model memory.now).rules.cost access t.length) program.now.header.tables }
+    ensures each { result ≡ map (λ t. (M.model memory.now).rules.cost access t.length) program.now.header.tables }
     ensures wide { length result ≡ 8 }
 {
     let tables = program.header().tables;
@@ -59,9 +59,9 @@ fn costs<M: Memory>(memory: &M, access: Access, program: &Program) -> [usize; 8]
 /// counting what a read of its table costs, and a store what a write costs. Where it is not held,
 /// no run leaves more.
 pub fn most_marks<M: Memory>(program: &Program, memory: &M) -> usize
-    ensures value { result ≡ most_marks (model memory.now).rules.cost program.now.header.tables (code_of program.now) }
-    ensures sum { Sum (mark_price (model memory.now).rules.cost program.now.header.tables) (code_of program.now) result }
-    ensures within { result ≤ 1000000 → CountsBy (mark_price (model memory.now).rules.cost program.now.header.tables) (code_of program.now) result }
+    ensures value { result ≡ most_marks (M.model memory.now).rules.cost program.now.header.tables (code_of program.now) }
+    ensures sum { Sum (mark_price (M.model memory.now).rules.cost program.now.header.tables) (code_of program.now) result }
+    ensures within { result ≤ 1000000 → CountsBy (mark_price (M.model memory.now).rules.cost program.now.header.tables) (code_of program.now) result }
 {
     most(
         program.code(),

@@ -43,10 +43,10 @@ fn chosen(here: bool, new: u32, old: u32) -> u32
 
 // Reads each offset, and answers the word at `off`.
 fn read_all<M: Memory>(below: &mut M, base: usize, len: usize, off: usize) -> u32
-    requires within { Within (model below.old) base len off }
-    requires room { len * turn_cost (model below.old).rules.cost Read len ≤ free (model below.old) }
-    ensures value { result ≡ slice_index (model below.old).cells (base + off) }
-    ensures after { model below.new ≡ marked (model below.old) (model below.old).cells (turns (model below.old).rules.shows Read base len len) }
+    requires within { Within (M.model below.old) base len off }
+    requires room { len * turn_cost (M.model below.old).rules.cost Read len ≤ free (M.model below.old) }
+    ensures value { result ≡ slice_index (M.model below.old).cells (base + off) }
+    ensures after { M.model below.new ≡ marked (M.model below.old) (M.model below.old).cells (turns (M.model below.old).rules.shows Read base len len) }
 {
     let mut found = 0;
     for at in 0..len {
@@ -58,9 +58,9 @@ fn read_all<M: Memory>(below: &mut M, base: usize, len: usize, off: usize) -> u3
 
 // Reads and then writes each offset: the new word at `off`, and elsewhere the old one.
 fn write_all<M: Memory>(below: &mut M, base: usize, len: usize, off: usize, word: u32)
-    requires within { Within (model below.old) base len off }
-    requires room { len * turn_cost (model below.old).rules.cost Write len ≤ free (model below.old) }
-    ensures { model below.new ≡ marked (model below.old) (slice_set (model below.old).cells (base + off) word) (turns (model below.old).rules.shows Write base len len) }
+    requires within { Within (M.model below.old) base len off }
+    requires room { len * turn_cost (M.model below.old).rules.cost Write len ≤ free (M.model below.old) }
+    ensures { M.model below.new ≡ marked (M.model below.old) (slice_set (M.model below.old).cells (base + off) word) (turns (M.model below.old).rules.shows Write base len len) }
 {
     for at in 0..len {
         let old = below.read(base, len, at).unwrap();
@@ -72,7 +72,7 @@ fn write_all<M: Memory>(below: &mut M, base: usize, len: usize, off: usize, word
 
 /// How many marks an access through a full scan of a memory shows.
 pub fn scan_cost<M: Memory>(below: &M, access: Access, len: usize) -> usize
-    ensures { result ≡ held (len * turn_cost (model below.now).rules.cost access len) }
+    ensures { result ≡ held (len * turn_cost (M.model below.now).rules.cost access len) }
 {
     let read = below.cost(Access::Read, len);
     let turn = match access {
@@ -89,8 +89,8 @@ pub fn scan_read<M: Memory>(
     len: usize,
     off: usize,
 ) -> Result<u32, Refusal>
-    ensures answer { result ≡ read_answer (scan_over (model below.old)) base len off }
-    ensures after { scan_over (model below.new) ≡ read_after (scan_over (model below.old)) base len off }
+    ensures answer { result ≡ read_answer (scan_over (M.model below.old)) base len off }
+    ensures after { scan_over (M.model below.new) ≡ read_after (scan_over (M.model below.old)) base len off }
 {
     let cost = scan_cost(below, Access::Read, len);
     if let Some(why) = denial(below.size(), base, len, off, cost, below.free()) {
@@ -107,8 +107,8 @@ pub fn scan_write<M: Memory>(
     off: usize,
     word: u32,
 ) -> Result<(), Refusal>
-    ensures answer { result ≡ write_answer (scan_over (model below.old)) base len off }
-    ensures after { scan_over (model below.new) ≡ write_after (scan_over (model below.old)) base len off word }
+    ensures answer { result ≡ write_answer (scan_over (M.model below.old)) base len off }
+    ensures after { scan_over (M.model below.new) ≡ write_after (scan_over (M.model below.old)) base len off word }
 {
     let cost = scan_cost(below, Access::Write, len);
     if let Some(why) = denial(below.size(), base, len, off, cost, below.free()) {

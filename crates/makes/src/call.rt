@@ -65,8 +65,8 @@ fn wrote(answer: Result<(), Refusal>) -> Answer
 
 /// Makes one call.
 pub fn perform<M: Memory>(memory: &mut M, call: Call) -> Answer
-    ensures answer { result ≡ answers call (model memory.old) }
-    ensures after { model memory.new ≡ leaves call (model memory.old) }
+    ensures answer { result ≡ answers call (M.model memory.old) }
+    ensures after { M.model memory.new ≡ leaves call (M.model memory.old) }
 {
     match call {
         Call::Read { base, len, off } => read(memory.read(base, len, off)),

@@ -8,10 +8,10 @@ use memory::Memory;
 /// Reads offset `i` of one memory and `j` of the other. What the two have seen is the same afterwards
 /// where `i` is `j`, and where they hide for any two offsets of the table.
 pub fn read_both<M: Memory>(one: &mut M, other: &mut M, base: usize, len: usize, i: usize, j: usize)
-    ensures one { model one.new ≡ read_after (model one.old) base len i }
-    ensures other { model other.new ≡ read_after (model other.old) base len j }
-    ensures same { SameButCells (model one.old) (model other.old) → i ≡ j → SameButCells (model one.new) (model other.new) }
-    ensures hidden { SameButCells (model one.old) (model other.old) → (model one.old).rules.hides ≡ true → i < len → j < len → SameButCells (model one.new) (model other.new) }
+    ensures one { M.model one.new ≡ read_after (M.model one.old) base len i }
+    ensures other { M.model other.new ≡ read_after (M.model other.old) base len j }
+    ensures same { SameButCells (M.model one.old) (M.model other.old) → i ≡ j → SameButCells (M.model one.new) (M.model other.new) }
+    ensures hidden { SameButCells (M.model one.old) (M.model other.old) → (M.model one.old).rules.hides ≡ true → i < len → j < len → SameButCells (M.model one.new) (M.model other.new) }
 {
     let _ = one.read(base, len, i);
     let _ = other.read(base, len, j);
@@ -28,10 +28,10 @@ pub fn write_both<M: Memory>(
     v: u32,
     w: u32,
 )
-    ensures one { model one.new ≡ write_after (model one.old) base len i v }
-    ensures other { model other.new ≡ write_after (model other.old) base len j w }
-    ensures same { SameButCells (model one.old) (model other.old) → i ≡ j → SameButCells (model one.new) (model other.new) }
-    ensures hidden { SameButCells (model one.old) (model other.old) → (model one.old).rules.hides ≡ true → i < len → j < len → SameButCells (model one.new) (model other.new) }
+    ensures one { M.model one.new ≡ write_after (M.model one.old) base len i v }
+    ensures other { M.model other.new ≡ write_after (M.model other.old) base len j w }
+    ensures same { SameButCells (M.model one.old) (M.model other.old) → i ≡ j → SameButCells (M.model one.new) (M.model other.new) }
+    ensures hidden { SameButCells (M.model one.old) (M.model other.old) → (M.model one.old).rules.hides ≡ true → i < len → j < len → SameButCells (M.model one.new) (M.model other.new) }
 {
     let _ = one.write(base, len, i, v);
     let _ = other.write(base, len, j, w);

@@ -24,8 +24,8 @@ pub enum Operation {
 
 /// Does one operation. Size, limit and rules are then as before.
 pub fn perform<M: Memory>(memory: &mut M, operation: Operation)
-    ensures after { model memory.new ≡ leaves operation (model memory.old) }
-    ensures settled { Settled (model memory.old) (model memory.new) }
+    ensures after { M.model memory.new ≡ leaves operation (M.model memory.old) }
+    ensures settled { Settled (M.model memory.old) (M.model memory.new) }
 {
     match operation {
         Operation::Read { base, len, off } => {

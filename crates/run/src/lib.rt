@@ -56,7 +56,7 @@ fn refuse(reason: Reason) -> Result<(), Refusal>
 
 // Whether the run may begin, with room for so many visits.
 fn test<M: Memory>(program: &Program, memory: &M, room: usize) -> Result<(), Refusal>
-    ensures { Tested program.now.header.tables (code_of program.now) (model memory.now) room result }
+    ensures { Tested program.now.header.tables (code_of program.now) (M.model memory.now) room result }
 {
     let steps = most_steps(program);
     if steps > MOST_STEPS {
@@ -102,8 +102,8 @@ fn go<M: Memory>(
     entry: &[u32; 16],
     visits: &mut [Visit],
 ) -> Outcome
-    requires { Runnable program.now.header.tables (code_of program.now) (model memory.old) (length visits.old) }
-    ensures { Ended program.now.header.tables (code_of program.now) (finish program.now.header.tables (code_of program.now) entry.now (model memory.old).cells) (model memory.old) (model memory.new) visits.old visits.new result }
+    requires { Runnable program.now.header.tables (code_of program.now) (M.model memory.old) (length visits.old) }
+    ensures { Ended program.now.header.tables (code_of program.now) (finish program.now.header.tables (code_of program.now) entry.now (M.model memory.old).cells) (M.model memory.old) (M.model memory.new) visits.old visits.new result }
 {
     let jumps = resolve(program);
     let windows = lay(program);
@@ -144,8 +144,8 @@ pub fn run<M: Memory>(
     entry: &[u32; 16],
     visits: &mut [Visit],
 ) -> Result<Outcome, Refusal>
-    ensures ran { Ran program.now.header.tables (code_of program.now) entry.now (model memory.old) (model memory.new) visits.old visits.new result }
-    ensures nested { ReadNested program.now.header.tables (code_of program.now) entry.now (model memory.old).cells }
+    ensures ran { Ran program.now.header.tables (code_of program.now) entry.now (M.model memory.old) (M.model memory.new) visits.old visits.new result }
+    ensures nested { ReadNested program.now.header.tables (code_of program.now) entry.now (M.model memory.old).cells }
     ensures ends { RunsEnd }
 {
     test(program, memory, visits.len())?;

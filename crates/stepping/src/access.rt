@@ -9,19 +9,19 @@ use windows::Window;
 
 /// The word at an offset of a window.
 pub fn fetch<M: Memory>(memory: &mut M, window: Window, off: usize) -> u32
-    requires within { Within (model memory.old) window.first window.length off }
-    requires room { (model memory.old).rules.cost Read window.length ≤ free (model memory.old) }
-    ensures word { result ≡ slice_index (model memory.old).cells (window.first + off) }
-    ensures after { model memory.new ≡ marked (model memory.old) (model memory.old).cells ((model memory.old).rules.shows Read window.first window.length off) }
+    requires within { Within (M.model memory.old) window.first window.length off }
+    requires room { (M.model memory.old).rules.cost Read window.length ≤ free (M.model memory.old) }
+    ensures word { result ≡ slice_index (M.model memory.old).cells (window.first + off) }
+    ensures after { M.model memory.new ≡ marked (M.model memory.old) (M.model memory.old).cells ((M.model memory.old).rules.shows Read window.first window.length off) }
 {
     memory.read(window.first, window.length, off).unwrap()
 }
 
 /// Sets the word at an offset of a window.
 pub fn keep<M: Memory>(memory: &mut M, window: Window, off: usize, word: u32)
-    requires within { Within (model memory.old) window.first window.length off }
-    requires room { (model memory.old).rules.cost Write window.length ≤ free (model memory.old) }
-    ensures { model memory.new ≡ marked (model memory.old) (slice_set (model memory.old).cells (window.first + off) word) ((model memory.old).rules.shows Write window.first window.length off) }
+    requires within { Within (M.model memory.old) window.first window.length off }
+    requires room { (M.model memory.old).rules.cost Write window.length ≤ free (M.model memory.old) }
+    ensures { M.model memory.new ≡ marked (M.model memory.old) (slice_set (M.model memory.old).cells (window.first + off) word) ((M.model memory.old).rules.shows Write window.first window.length off) }
 {
     memory
         .write(window.first, window.length, off, word)

@@ -55,9 +55,9 @@ fn load<M: Memory>(
     memory: &mut M,
 ) -> Move
     requires fits { target < 32 }
-    requires allowed { Allowed (model memory.old) Read off window }
+    requires allowed { Allowed (M.model memory.old) Read off window }
     requires short { place < 3000 }
-    ensures { Loaded place registers.old (model memory.old) result registers.new (model memory.new) target off window }
+    ensures { Loaded place registers.old (M.model memory.old) result registers.new (M.model memory.new) target off window }
 {
     if off >= window.length {
         return Move { place, choice: 3 };
@@ -67,9 +67,9 @@ fn load<M: Memory>(
 }
 
 fn store<M: Memory>(word: u32, at: usize, window: Window, place: usize, memory: &mut M) -> Move
-    requires allowed { Allowed (model memory.old) Write at window }
+    requires allowed { Allowed (M.model memory.old) Write at window }
     requires short { place < 3000 }
-    ensures { Stored place (model memory.old) result (model memory.new) word at window }
+    ensures { Stored place (M.model memory.old) result (M.model memory.new) word at window }
 {
     if at >= window.length {
         return Move { place, choice: 3 };
@@ -86,9 +86,9 @@ fn perform<M: Memory>(
     memory: &mut M,
 ) -> Move
     requires fits { FitOp 32 8 op }
-    requires ready { ReadyOp windows.now registers.old (model memory.old) op }
+    requires ready { ReadyOp windows.now registers.old (M.model memory.old) op }
     requires short { place < 3000 }
-    ensures { Done windows.now place registers.old (model memory.old) result registers.new (model memory.new) op }
+    ensures { Done windows.now place registers.old (M.model memory.old) result registers.new (M.model memory.new) op }
 {
     match op {
         Op::Set { target, value } => {
@@ -142,9 +142,9 @@ pub fn step<M: Memory>(
     memory: &mut M,
 ) -> Move
     requires fits { Fit 32 8 instruction }
-    requires ready { Ready windows.now repeats.old.depth registers.old (model memory.old) instruction }
+    requires ready { Ready windows.now repeats.old.depth registers.old (M.model memory.old) instruction }
     requires short { place < 3000 }
-    ensures { Turned windows.now jumps.now place (items repeats.old.rows repeats.old.depth) registers.old (model memory.old) result (items repeats.new.rows repeats.new.depth) registers.new (model memory.new) instruction }
+    ensures { Turned windows.now jumps.now place (items repeats.old.rows repeats.old.depth) registers.old (M.model memory.old) result (items repeats.new.rows repeats.new.depth) registers.new (M.model memory.new) instruction }
 {
     let next = place + 1;
     let target = jumps[place] as usize;

@@ -6,7 +6,7 @@ use Rattle.program.specs.Firsts.{all_below}
 use Rattle.header.specs.Layout.{header_good, header_at, tables_at, entry_good, kind_of, pair_at, zero_from40}
 use Rattle.header.proofs.Choosing.{cond_none, cond_some}
 use Rattle.header.proofs.decode.header.Goals as goal
-use Rattle.header.proofs.decode.header.Goals.{then-image-ne1-via-then-image-ne1, then-image-ne1-via-else-image-ne1+then-image-ne0, then-image-ne1-via-else-image-ne1+else-image-ne0+then-used-gt-MOST-TABLES, then-count-longest-via-then-count-longest, then-count-longest-via-else-count-longest+then-cells-gt-MOST-CELLS}
+use Rattle.header.proofs.decode.header.Goals.{then-image-ne1-via-then-image-ne1, then-image-ne1-via-else-image-ne1+then-image-ne0, then-image-ne1-via-else-image-ne1+else-image-ne0+then-used-gt-MOST_TABLES, then-count-longest-via-then-count-longest, then-count-longest-via-else-count-longest+then-cells-gt-MOST_CELLS}
 
 pub returns-then-image-ne1 : goal.returns-then-image-ne1
 unfolding header_good
@@ -16,7 +16,7 @@ returns-then-image-ne1 c =
     elim c.then-image-ne1.branch [
       | then-image-ne1-via-then-image-ne1 w ↦ grind (arith, nat_tests)
       | then-image-ne1-via-else-image-ne1+then-image-ne0 w ↦ grind (arith, nat_tests)
-      | then-image-ne1-via-else-image-ne1+else-image-ne0+then-used-gt-MOST-TABLES w ↦ grind (arith, nat_tests)
+      | then-image-ne1-via-else-image-ne1+else-image-ne0+then-used-gt-MOST_TABLES w ↦ grind (arith, nat_tests)
     ] in
     sym (cond-false (header_good bs) _ _ no)
 
@@ -48,7 +48,7 @@ returns-then-count-longest c =
       | then-count-longest-via-then-count-longest w ↦
           let many : leb (pair_at bs 4) (longest (kind_of (get_or bs 3 0))) ≡ false = lt-leb _ _ (omega arith) in
           grind (arith, nat_tests)
-      | then-count-longest-via-else-count-longest+then-cells-gt-MOST-CELLS w ↦
+      | then-count-longest-via-else-count-longest+then-cells-gt-MOST_CELLS w ↦
           let cells : w.cells.result ≡ cells_of (tables_at bs) = w.cells.ensures ∙ ap cells_of tables in
           let many : leb (cells_of (tables_at bs)) 4096 ≡ false = lt-leb _ _ (omega arith) in
           grind (arith, nat_tests)

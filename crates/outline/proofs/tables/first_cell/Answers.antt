@@ -15,8 +15,8 @@ held_at_eight ts n eight =
     (λ (ge : 8 ≤ n). ap cells_of (take_all (min n 8) ts (omega arith) ∙ sym (take_all n ts (omega arith))))
     (cases_lt n 8)
 
-pub overflow-add-sum : goal.overflow-add-sum
-overflow-add-sum c = omega arith
+pub overflow_add-sum : goal.overflow_add-sum
+overflow_add-sum c = omega arith
 
 pub loop-i-preserved : goal.loop-i-preserved
 loop-i-preserved c =
