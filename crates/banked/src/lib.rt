@@ -3,7 +3,7 @@
 
 ghost use Rattle.std.specs.Prelude.{◌≡◌, ℕ, ◌<◌, [], length, replicate, IfOk, slice_index_or};
 ghost use Rattle.banked.specs.Banks.{cells_of, banked};
-ghost use Rattle.std.proofs.Common.{rules, arith};
+ghost use Rattle.std.proofs.Common.{rules};
 
 use leaf::SeenList;
 use memory::denial::denial;
@@ -67,7 +67,7 @@ fn in_order(heap: Global, banks: &[[u32; 256]; 4]) -> Result<Vec<u32>, AllocErro
 impl Memory for Banked {
     ghost model = { λ m. banked m.banks m.seen.list.items m.seen.count };
 
-    ghost lawful = { first_of (Prim.search rules, Prim.grind (arith, Self.row.coded.inj)) };
+    ghost lawful = { Prim.search rules };
 
     fn read(&mut self, base: usize, len: usize, off: usize) -> Result<u32, Refusal> {
         if let Some(why) = denial(self.size(), base, len, off, 1, self.free()) {

@@ -41,11 +41,12 @@ fn the_instruction_list(rt: HostRuntime) -> Result<(), Fail> {
     };
     assert!(rt;
         list.as_slice()
-            == &[
+            == [
                 Instruction::Do { op },
                 Instruction::Do { op },
                 Instruction::Again,
             ]
+            .as_slice()
     );
     Ok(())
 }
