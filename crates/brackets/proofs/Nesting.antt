@@ -1,7 +1,6 @@
 -- Brackets pair exactly where the instructions are the writing-out of nested blocks.
 use Rattle.std.proofs.Common.{◌≡◌, ℕ, suc, ◌+◌, ◌<◌, ◌≤◌, Bool, true, false, ltb, List, [], ◌∷◌, length, Some, None, Option, sym, refl, ap, ◌∙◌, arith}
 use Rattle.std.proofs.lemmas.Bool.{ltb-true, lt-ltb}
-use Rattle.instructions.specs.declared.Op.{Op}
 use Rattle.instructions.specs.declared.Instruction.{Instruction}
 use Rattle.instructions.specs.declared.Instruction.TheVariants.{Do, If, Else, End, Repeat, Again}
 use Rattle.program.specs.declared.opening.Opening.{Opening}
@@ -9,10 +8,9 @@ use Rattle.program.specs.declared.opening.Opening.TheVariants.{Then, Otherwise, 
 use Rattle.program.specs.declared.refusal.Reason.{Reason}
 use Rattle.program.specs.declared.refusal.Reason.TheVariants.{TooDeep}
 use Rattle.program.specs.declared.refusal.Refusal.{Refusal}
-use Rattle.program.specs.Refusals.{refusal, unless, or_else}
-use Rattle.program.specs.Pairing.{pairing, wrong}
-use Rattle.program.specs.Openings.{past}
-use Rattle.program.specs.Blocks.{Block, done, one, if_then, if_else, loop, flat, depth, fin, Nested}
+use Rattle.program.specs.Refusals.{unless, or_else}
+use Rattle.program.specs.Pairing.{pairing}
+use Rattle.program.specs.Blocks.{Block, done, one, if_then, if_else, loop, flat, depth, fin}
 use Rattle.brackets.specs.Nesting.{PairedIsNested}
 
 no_some : {X : Type 0} {x : X} → Some x ≡ None → ⊥

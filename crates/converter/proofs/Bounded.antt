@@ -1,6 +1,6 @@
 -- A converted program keeps the bounds of its kind.
-use Rattle.std.proofs.Common.{◌≡◌, ℕ, zero, suc, ◌+◌, ◌<◌, ◌≤◌, Bool, true, false, cond, ◌&&◌, ltb, leb, List, [], ◌∷◌, ◌++◌, length, get_or, refl, ap, ◌∙◌, arith}
-use Rattle.std.proofs.lemmas.Bool.{and_parts, and_from, ltb-true, lt-ltb, true≢false, false≢true}
+use Rattle.std.proofs.Common.{◌≡◌, ℕ, zero, suc, ◌+◌, ◌<◌, ◌≤◌, Bool, true, false, cond, ◌&&◌, ltb, leb, List, [], ◌∷◌, ◌++◌, length, get_or, refl, ap, arith}
+use Rattle.std.proofs.lemmas.Bool.{and_parts, and_from, ltb-true, lt-ltb, false≢true}
 use Rattle.instructions.specs.declared.Op.{Op}
 use Rattle.instructions.specs.declared.Instruction.{Instruction}
 use Rattle.instructions.specs.declared.Instruction.TheVariants.{Do, If, Else, End, Repeat, Again}
@@ -15,9 +15,9 @@ use Rattle.masks.specs.Counts.{secrets_of}
 use Rattle.masks.proofs.Counting.{secrets_le}
 use Rattle.groups.specs.Groups.{straight, mask_at, op_group, if_group, else_group}
 use Rattle.converter.specs.Conversion.{secret_if, secret_else, becomes, convert}
-use Rattle.converter.proofs.Shapes.{Fit, shape_of}
+use Rattle.converter.proofs.Shapes.{Fit}
 use Rattle.converter.proofs.Paired.{shapes}
-use Rattle.converter.proofs.Fitting.{MaskFits, mask_fits, AllOps, op_group_lem, if_group_lem, else_group_lem}
+use Rattle.converter.proofs.Fitting.{mask_fits, AllOps, op_group_lem, if_group_lem, else_group_lem}
 
 length-shapes : (ks : List (Marked Bool)) → length (shapes ks) ≡ length ks
 length-shapes [] = refl

@@ -1,18 +1,16 @@
 -- A converted program is paired as its source is: secret ifs leave no bracket, the others keep theirs.
-use Rattle.std.proofs.Common.{◌≡◌, ℕ, suc, ◌+◌, ◌<◌, ◌≤◌, Bool, true, false, cond, ◌&&◌, ltb, List, [], ◌∷◌, ◌++◌, length, sym, refl, ap, ◌∙◌, arith}
+use Rattle.std.proofs.Common.{◌≡◌, ℕ, suc, ◌+◌, ◌≤◌, Bool, true, false, cond, ◌&&◌, ltb, List, [], ◌∷◌, ◌++◌, length, refl, ◌∙◌, arith}
 use Rattle.instructions.specs.declared.Op.{Op}
 use Rattle.instructions.specs.declared.Instruction.{Instruction}
 use Rattle.instructions.specs.declared.Instruction.TheVariants.{Do, If, Else, End, Repeat, Again}
 use Rattle.program.specs.declared.opening.Opening.{Opening}
 use Rattle.program.specs.declared.opening.Opening.TheVariants.{Then, Otherwise, Loop}
 use Rattle.program.specs.declared.opening.Marked.{Marked}
-use Rattle.labels.specs.Kinds.{secrecy}
 use Rattle.labels.specs.Rules.{mark}
-use Rattle.labels.specs.Passes.{opens}
 use Rattle.masks.specs.Counts.{secrets_of}
 use Rattle.groups.specs.Groups.{straight, mask_at, op_group, if_group, else_group}
-use Rattle.converter.specs.Conversion.{secret_if, secret_else, becomes, convert}
-use Rattle.converter.proofs.Shapes.{Shape, in_then, in_else, in_loop, Fit, shape_of}
+use Rattle.converter.specs.Conversion.{secret_if, convert}
+use Rattle.converter.proofs.Shapes.{Shape, Fit, shape_of}
 
 abbrev pub shapes : List (Marked Bool) → List Shape
 shapes [] = []

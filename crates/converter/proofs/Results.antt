@@ -1,5 +1,5 @@
 -- What a source's result is.
-use Rattle.std.proofs.Common.{◌≡◌, ℕ, ◌+◌, ◌<◌, ◌≤◌, Bool, true, false, ◌&&◌, ltb, leb, List, [], ◌∷◌, ◌++◌, length, get_or, take, drop, is_some, IfOk, Some, None, Ok, Err, vec_items, Option, Result, sym, refl, ap, ◌∙◌, subst, arith}
+use Rattle.std.proofs.Common.{◌≡◌, ℕ, ◌+◌, ◌<◌, ◌≤◌, Bool, true, false, ltb, leb, List, [], ◌++◌, length, get_or, take, is_some, IfOk, Some, None, Ok, Err, vec_items, Option, Result, sym, refl, ap, ◌∙◌, subst, arith}
 use Rattle.std.proofs.lemmas.List.{get_or-take, get_or_append_left, take_at, length-append}
 use Rattle.std.proofs.lemmas.Bool.{and_parts, ltb-true, leb-true}
 use Rattle.instructions.specs.declared.Instruction.{Instruction}
@@ -10,8 +10,8 @@ use Rattle.program.specs.declared.header.Kind.{Kind}
 use Rattle.program.specs.declared.header.Kind.TheVariants.{Source, Converted}
 use Rattle.program.specs.declared.refusal.Refusal.{Refusal}
 use Rattle.program.specs.declared.refusal.Reason.{Reason}
-use Rattle.program.specs.declared.refusal.Reason.TheVariants.{NotASource, TooManySteps, NoRoomForResult}
-use Rattle.program.specs.Refusals.{unless, or_else, refused_by}
+use Rattle.program.specs.declared.refusal.Reason.TheVariants.{NotASource, NoRoomForResult}
+use Rattle.program.specs.Refusals.{unless, or_else}
 use Rattle.program.specs.declared.program.Program.{Program}
 use Rattle.program.specs.Bounds.{bound}
 use Rattle.program.specs.Headers.{registers_of, longest, is_source, no_table, table_fits}
@@ -23,7 +23,6 @@ use Rattle.labels.specs.Sets.{sets, secret_tables}
 use Rattle.labels.proofs.Reckoning.{reckoned}
 use Rattle.plan.specs.Planned.{plan_of, Passable}
 use Rattle.plan.proofs.Steps.{passable}
-use Rattle.machine.specs.Fits.{Fit}
 use Rattle.machine.specs.Programs.{code_of}
 use Rattle.machine.proofs.Fitting.{fits}
 use Rattle.machine.proofs.Programs.{code_long, code_pairs}
@@ -35,7 +34,7 @@ use Rattle.converter.proofs.Shapes.{shaped, placed}
 use Rattle.converter.proofs.Paired.{paired}
 use Rattle.converter.specs.Theorems.{brackets, Straight}
 use Rattle.converter.proofs.Left.{all_left}
-use Rattle.converter.proofs.Bounded.{All, all_at, all_from, bounded}
+use Rattle.converter.proofs.Bounded.{all_at, all_from, bounded}
 
 table_short : (t : Table) (b : Bool) → b ≡ true → table_fits t b ≡ true → t.length ≤ 1024
 table_short t true e h = leb-true t.length 1024 (and_parts (leb 1 t.length) (leb t.length 1024) h).1

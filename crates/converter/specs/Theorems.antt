@@ -2,7 +2,6 @@
 use Rattle.std.specs.Prelude.{◌≡◌, ℕ, suc, ◌≤◌, Bool, cond, List, [], ◌∷◌, ◌++◌, length, Ok, Err, Result}
 use Rattle.instructions.specs.declared.Instruction.{Instruction}
 use Rattle.instructions.specs.declared.Instruction.TheVariants.{Do, If, Else, End, Repeat, Again}
-use Rattle.program.specs.declared.header.Header.{Header}
 use Rattle.program.specs.declared.header.Kind.TheVariants.{Converted}
 use Rattle.program.specs.declared.handed_back.HandedBack.{HandedBack}
 use Rattle.program.specs.declared.opening.Marked.{Marked}

@@ -8,12 +8,11 @@ use Rattle.instructions.specs.declared.Op.TheVariants.{Set, Pick, Load, Store}
 use Rattle.instructions.specs.declared.Instruction.{Instruction}
 use Rattle.instructions.specs.declared.Instruction.TheVariants.{Do, If, Else, End, Repeat, Again}
 use Rattle.program.specs.declared.opening.Opening.{Opening}
-use Rattle.program.specs.declared.opening.Opening.TheVariants.{Then, Otherwise, Loop}
+use Rattle.program.specs.declared.opening.Opening.TheVariants.{Then, Loop}
 use Rattle.program.specs.Pairing.{pairing}
-use Rattle.stack.specs.Items.{swapped}
 use Rattle.machine.specs.Fits.{FitOp, Fit}
 use Rattle.machine.specs.Most.{Price, each_step, hold, price}
-use Rattle.machine.proofs.Around.{no_some, opens, closers, closers-is, Around, around}
+use Rattle.machine.proofs.Around.{no_some, opens, closers, closers-is, around}
 use Rattle.counting.specs.declared.part.Part.{Part}
 use Rattle.counting.specs.Counting.{priced, part, innermost, arms, turns, entered, sums, Added}
 

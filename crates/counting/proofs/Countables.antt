@@ -1,5 +1,5 @@
 -- The instructions of a program can be counted.
-use Rattle.std.proofs.Common.{◌≡◌, ◌<◌, get_or, vec_items, sym, subst, arith}
+use Rattle.std.proofs.Common.{◌<◌, get_or, vec_items, sym, subst, arith}
 use Rattle.std.proofs.lemmas.List.{get_or-take}
 use Rattle.instructions.specs.declared.Instruction.TheVariants.{Again}
 use Rattle.program.specs.declared.program.Program.{Program}

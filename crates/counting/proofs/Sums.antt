@@ -1,8 +1,8 @@
 -- One pass gives the sum over the nested blocks.
-use Rattle.std.proofs.Common.{◌≡◌, ℕ, zero, suc, ◌+◌, ◌*◌, ◌<◌, ◌≤◌, max, ◌⊎◌, List, [], ◌∷◌, None, sym, refl, ap, ◌∙◌, ⊎_elim, arith}
+use Rattle.std.proofs.Common.{◌≡◌, ℕ, zero, suc, ◌+◌, ◌*◌, ◌<◌, ◌≤◌, max, List, [], ◌∷◌, None, sym, ap, ◌∙◌, ⊎_elim, arith}
 use Rattle.std.proofs.lemmas.Bool.{cases_lt}
 use Rattle.instructions.specs.declared.Instruction.{Instruction}
-use Rattle.instructions.specs.declared.Instruction.TheVariants.{Do, If, Else, End, Repeat, Again}
+use Rattle.instructions.specs.declared.Instruction.TheVariants.{Else, End, Again}
 use Rattle.program.specs.Blocks.{Block, done, one, if_then, if_else, loop, flat}
 use Rattle.program.specs.Pairing.{pairing}
 use Rattle.brackets.proofs.Nesting.{tree}

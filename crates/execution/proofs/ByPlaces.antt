@@ -1,5 +1,5 @@
 -- A run by places does what the nested blocks say.
-use Rattle.std.proofs.Common.{◌≡◌, ℕ, zero, suc, ◌+◌, ◌-◌, ◌<◌, ◌≤◌, min, Bool, true, false, ltb, ◌⊎◌, List, [], ◌∷◌, length, take, drop, sym, refl, ap, ◌∙◌, subst, ⊎_elim, arith}
+use Rattle.std.proofs.Common.{◌≡◌, ℕ, zero, suc, ◌+◌, ◌-◌, ◌<◌, ◌≤◌, min, Bool, true, false, ltb, List, [], ◌∷◌, length, take, drop, sym, refl, ap, ◌∙◌, subst, ⊎_elim, arith}
 use Rattle.std.proofs.lemmas.Bool.{cases_lt}
 use Rattle.instructions.specs.declared.Op.{Op}
 use Rattle.instructions.specs.declared.Op.TheVariants.{Set, Pick, Load, Store}
@@ -13,7 +13,7 @@ use Rattle.program.specs.Openings.{elsed, ended, againd, past}
 use Rattle.program.specs.Blocks.{Block, done, one, if_then, if_else, loop, flat, depth, fin}
 use Rattle.machine.specs.declared.repeat.OpenRepeat.{OpenRepeat}
 use Rattle.machine.specs.States.{State, visited}
-use Rattle.machine.specs.Machine.{Out, fine, fault, length_of, loads, stores, does, Conf, go, stop, state_of, open_at, closing, after_else, land, begin, back, test, step, next, steps, count}
+use Rattle.machine.specs.Machine.{Out, fine, fault, length_of, loads, stores, does, Conf, go, stop, state_of, open_at, closing, land, begin, test, step, next, steps, count}
 use Rattle.machine.specs.Nested.{and_then, rounds, repeats, either, exec}
 use Rattle.execution.specs.Runs.{passed, open_around, Inside, Able, Running}
 

@@ -1,7 +1,7 @@
 -- The whole run of a block.
 use Rattle.std.proofs.Common.{◌≡◌, ℕ, zero, suc, ◌+◌, ◌-◌, ◌≤◌, List, [], ◌∷◌, length, drop, sym, refl, ap, ◌∙◌, arith}
 use Rattle.instructions.specs.declared.Instruction.{Instruction}
-use Rattle.instructions.specs.declared.Instruction.TheVariants.{Do, If, Else, End, Repeat, Again}
+use Rattle.instructions.specs.declared.Instruction.TheVariants.{Else, End, Again}
 use Rattle.program.specs.declared.header.Table.{Table}
 use Rattle.program.specs.Blocks.{Block, done, one, if_then, if_else, loop, flat, depth, fin}
 use Rattle.machine.specs.States.{State}

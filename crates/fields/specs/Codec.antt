@@ -1,5 +1,5 @@
 -- The instruction of five fields, and the fields of an instruction.
-use Rattle.std.specs.Prelude.{◌≡◌, ℕ, true, List, [], ◌∷◌, slice_index_or}
+use Rattle.std.specs.Prelude.{◌≡◌, ℕ, true, [], ◌∷◌, slice_index_or}
 use Rattle.instructions.specs.declared.BinaryOp.{BinaryOp}
 use Rattle.instructions.specs.declared.BinaryOp.TheVariants.{Add, Sub, Mul, And, Or, Xor, Below, Same}
 use Rattle.instructions.specs.declared.ShiftOp.{ShiftOp}

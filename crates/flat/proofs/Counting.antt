@@ -1,5 +1,5 @@
 -- The cells that count, of those that are handed in.
-use Rattle.std.proofs.Common.{◌≡◌, ℕ, zero, suc, ◌<◌, ◌≤◌, min, List, [], ◌∷◌, length, get_or, take, set, sym, refl, ap, ◌∙◌, arith, length-take}
+use Rattle.std.proofs.Common.{◌≡◌, ℕ, zero, suc, min, List, [], ◌∷◌, length, take, set, refl, ap, length-take}
 use Rattle.flat.specs.Flat.{counting}
 
 pub length-counting : (cells : List ℕ) → length (counting cells) ≡ min 65536 (length cells)

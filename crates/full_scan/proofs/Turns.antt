@@ -1,5 +1,5 @@
 -- The accesses of one turn below.
-use Rattle.std.proofs.Common.{◌≡◌, ℕ, ◌+◌, ◌*◌, ◌<◌, ◌≤◌, cond, eqb, List, ◌++◌, length, get_or, set, Ok, Result, sym, refl, ap, ◌∙◌, append_assoc, add-one, arith, length-append}
+use Rattle.std.proofs.Common.{◌≡◌, ℕ, ◌+◌, ◌*◌, ◌<◌, ◌≤◌, cond, eqb, List, ◌++◌, length, get_or, set, Ok, Result, sym, ap, ◌∙◌, append_assoc, add-one, arith, length-append}
 use Rattle.memory.specs.declared.Access.TheVariants.{Read, Write}
 use Rattle.memory.specs.Description.{Mark, Description, free, marked}
 use Rattle.memory.specs.Accesses.{read_answer, read_after, write_answer, write_after}

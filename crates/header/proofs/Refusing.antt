@@ -1,5 +1,5 @@
 -- What is refused of a header that is good.
-use Rattle.std.proofs.Common.{◌≡◌, ℕ, ◌+◌, ◌*◌, ◌≤◌, true, eqb, leb, List, length, ap, ◌∙◌}
+use Rattle.std.proofs.Common.{◌≡◌, ℕ, ◌+◌, ◌*◌, ◌≤◌, true, eqb, List, length, ap}
 use Rattle.std.proofs.lemmas.Bool.{le-leb}
 use Rattle.program.specs.declared.header.Header.{Header}
 use Rattle.program.specs.declared.refusal.Reason.TheVariants.{NoHeader, BadHeader, BadLength}

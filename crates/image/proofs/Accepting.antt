@@ -1,11 +1,10 @@
 -- What reading answers, from its parts.
-use Rattle.std.proofs.Common.{◌≡◌, ℕ, ◌+◌, ◌*◌, ◌<◌, ◌≤◌, true, false, leb, List, ◌++◌, length, take, drop, Some, None, vec_items, sym, refl, ap, ◌∙◌, subst, arith, length-append}
+use Rattle.std.proofs.Common.{◌≡◌, ℕ, ◌+◌, ◌*◌, ◌<◌, ◌≤◌, leb, List, ◌++◌, length, take, drop, Some, None, sym, ap, ◌∙◌, subst, arith, length-append}
 use Rattle.std.proofs.lemmas.List.FromFn.{length-map-range_with_len}
 use Rattle.std.proofs.lemmas.List.{take_at}
 use Rattle.std.proofs.lemmas.Bool.{lt-leb, le-leb}
 use Rattle.instructions.specs.declared.Instruction.{Instruction}
 use Rattle.program.specs.declared.header.Header.{Header}
-use Rattle.program.specs.declared.program.Program.{Program}
 use Rattle.program.specs.declared.refusal.Reason.TheVariants.{NoRoomForCode}
 use Rattle.program.specs.declared.refusal.Refusal.{Refusal}
 use Rattle.program.specs.Refusals.{refusal, unless, or_else}
@@ -15,7 +14,6 @@ use Rattle.header.specs.Layout.{header_at}
 use Rattle.header.proofs.Rewritten.{Bytes, header_sound}
 use Rattle.brackets.proofs.Nesting.{paired_is_nested}
 use Rattle.image.specs.Images.{instruction_at, instructions, code_of, image_refusal, read_refusal, image_of}
-use Rattle.image.specs.Reading.{Accepted, code_in}
 use Rattle.image.proofs.Sounding.{SoundCode, as_list}
 use Rattle.image.proofs.Answering.{header_good_lem, code_sound, image_rewritten, brackets_passed}
 

@@ -1,7 +1,6 @@
 -- The answer of reading, from the answers of its checks.
-use Rattle.std.proofs.Common.{◌≡◌, ℕ, zero, suc, ◌+◌, ◌*◌, ◌<◌, ◌≤◌, Bool, true, false, cond, not, eqb, leb, ◌⊎◌, List, [], ◌++◌, length, get_or, take, drop, is_some, Some, None, Option, sym, refl, ap, ◌∙◌, subst, inl, inr, ⊎_elim, arith, length-drop, take-append-drop, get_or-drop}
+use Rattle.std.proofs.Common.{◌≡◌, ℕ, zero, suc, ◌+◌, ◌*◌, ◌<◌, Bool, true, false, leb, ◌⊎◌, List, [], ◌++◌, length, drop, is_some, Some, None, Option, sym, refl, ap, ◌∙◌, subst, ⊎_elim, arith, length-drop, take-append-drop, get_or-drop}
 use Rattle.std.proofs.lemmas.List.FromFn.{length-map-range_with_len, get_or-map-range_with_len}
-use Rattle.instructions.specs.declared.Instruction.{Instruction}
 use Rattle.instructions.specs.declared.Instruction.TheVariants.{Again}
 use Rattle.program.specs.declared.header.Header.{Header}
 use Rattle.program.specs.declared.refusal.Reason.{Reason}
@@ -20,10 +19,10 @@ use Rattle.fields.specs.Fields.{fields_at}
 use Rattle.fields.specs.Rows.{admitted}
 use Rattle.fields.specs.Codec.{decode}
 use Rattle.fields.proofs.Trips.{encode_decode, same_bounds}
-use Rattle.header.specs.Layout.{header_at, header_good, header_refusal, header_bytes, pair_at}
-use Rattle.header.proofs.Rewritten.{Bytes, header_rewritten, header_sound}
+use Rattle.header.specs.Layout.{header_at, header_good, header_refusal}
+use Rattle.header.proofs.Rewritten.{Bytes, header_rewritten}
 use Rattle.brackets.proofs.Nesting.{paired_is_nested}
-use Rattle.image.specs.Images.{limits_of, instruction_at, instructions, code_of, fields_good, fields_refusal, image_refusal, image_of, code_bytes}
+use Rattle.image.specs.Images.{limits_of, instruction_at, instructions, code_of, fields_good, fields_refusal, image_refusal, image_of}
 use Rattle.image.proofs.Sounding.{SoundCode}
 use Rattle.image.proofs.Trips.{code_rewritten}
 

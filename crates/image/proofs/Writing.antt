@@ -1,6 +1,6 @@
 -- What writing leaves, and how it is read.
-use Rattle.std.proofs.Common.{◌≡◌, ℕ, ◌+◌, ◌*◌, ◌^◌, ◌<◌, ◌≤◌, true, false, cond, eqb, leb, List, [], ◌++◌, length, get_or, take, drop, is_some, Some, None, Ok, vec_items, Option, sym, refl, ap, ◌∙◌, subst, arith, length-append, get_or-take}
-use Rattle.std.proofs.lemmas.List.{take_at, drop_at, length-take-le}
+use Rattle.std.proofs.Common.{◌≡◌, ℕ, ◌+◌, ◌*◌, ◌^◌, ◌<◌, ◌≤◌, true, false, eqb, leb, List, [], ◌++◌, length, get_or, take, drop, is_some, Some, None, Ok, vec_items, Option, sym, refl, ap, ◌∙◌, subst, arith, length-append}
+use Rattle.std.proofs.lemmas.List.{take_at, drop_at}
 use Rattle.std.proofs.lemmas.Bool.{le-leb, eq-eqb, cond-false, le-ltb}
 use Rattle.instructions.specs.declared.Instruction.{Instruction}
 use Rattle.instructions.specs.declared.Instruction.TheVariants.{Again}
@@ -10,7 +10,6 @@ use Rattle.program.specs.declared.refusal.Reason.TheVariants.{NoHeader, BadHeade
 use Rattle.program.specs.declared.refusal.Refusal.{Refusal}
 use Rattle.program.specs.Refusals.{unless, or_else}
 use Rattle.program.specs.Headers.{registers_of}
-use Rattle.program.specs.Bounds.{bound}
 use Rattle.program.specs.Pairing.{pairing}
 use Rattle.program.specs.Sound.{SoundHeader}
 use Rattle.program.proofs.Firsts.{failing_none}

@@ -1,5 +1,5 @@
 -- An image: a header of 64 bytes, and eight bytes for each instruction.
-use Rattle.std.specs.Prelude.{ℕ, ◌+◌, ◌*◌, Bool, List, [], ◌++◌, map, length, drop, Option, nat_le}
+use Rattle.std.specs.Prelude.{ℕ, ◌+◌, ◌*◌, Bool, List, [], ◌++◌, map, drop, Option, nat_le}
 use Rattle.std.specs.List.{range_with_len, flat_map}
 use Rattle.instructions.specs.declared.Instruction.{Instruction}
 use Rattle.program.specs.declared.header.Header.{Header}

@@ -1,5 +1,5 @@
 -- The pass from the end that finds each jump.
-use Rattle.std.proofs.Common.{◌≡◌, ℕ, zero, suc, ◌+◌, ◌-◌, ◌<◌, ◌≤◌, Bool, true, false, cond, ◌≢◌, ◌⊎◌, List, [], ◌∷◌, length, get_or, drop, set, None, sym, refl, ap, ◌∙◌, subst, ⊎_elim, add-one, arith, length-drop}
+use Rattle.std.proofs.Common.{◌≡◌, ℕ, suc, ◌+◌, ◌<◌, ◌≤◌, false, cond, ◌≢◌, List, [], ◌∷◌, length, get_or, drop, set, None, sym, refl, ap, ◌∙◌, subst, ⊎_elim, add-one, arith, length-drop}
 use Rattle.std.proofs.lemmas.List.{get_or-set_same, get_or-set_other, drop_all}
 use Rattle.std.proofs.lemmas.Bool.{cases_order, lt-ltb}
 use Rattle.instructions.specs.declared.Op.{Op}
@@ -9,9 +9,9 @@ use Rattle.program.specs.declared.opening.Opening.{Opening}
 use Rattle.program.specs.declared.opening.Opening.TheVariants.{Then, Otherwise, Loop}
 use Rattle.program.specs.Pairing.{pairing}
 use Rattle.machine.specs.Machine.{closing, other, after_else}
-use Rattle.machine.proofs.Around.{no_some, opens, closers, closers-is, Around, around}
+use Rattle.machine.proofs.Around.{no_some, opens, closers, closers-is, around}
 use Rattle.jumps.specs.declared.Closer.{Closer}
-use Rattle.jumps.specs.Jumps.{Jumps, closer, innermost, met, Noted}
+use Rattle.jumps.specs.Jumps.{Jumps, closer, met, Noted}
 
 -- what an instruction needs of the closing brackets that were met
 abbrev Wants : Instruction → List Closer → Type 0

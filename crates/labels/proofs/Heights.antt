@@ -11,7 +11,7 @@ use Rattle.program.specs.Openings.{past, around}
 use Rattle.program.specs.Bounds.{bound_op, bound}
 use Rattle.program.proofs.Around.{around_next, around_none, drop_next, drop_at}
 use Rattle.labels.specs.Kinds.{LabelKind, Within, Lawful, Rises}
-use Rattle.labels.specs.Rules.{Way, Each, leaves, mask_of, ways, put, Smallest}
+use Rattle.labels.specs.Rules.{Way, leaves, mask_of, ways, put, Smallest}
 use Rattle.labels.specs.Passes.{unmarked, Ahead, raised, passed, along, flow, opens, sweep, onset, passes, Rising}
 use Rattle.labels.proofs.Solving.{Le, sweep_up, rising, reached}
 use Rattle.labels.proofs.Targets.{Targets, within}

@@ -1,5 +1,5 @@
 -- Labels are ordered, and two joined are the least above both.
-use Rattle.std.proofs.Common.{◌≡◌, Bool, true, sym, refl, ap, ◌∙◌, subst}
+use Rattle.std.proofs.Common.{◌≡◌, true, sym, ap, ◌∙◌}
 use Rattle.labels.specs.Kinds.{LabelKind, Within, Lawful}
 
 module _ {L : Type 0} (K : LabelKind L) (laws : Lawful K) where

@@ -1,13 +1,13 @@
 -- The theorems on the smallest labels, and the cases by hand.
-use Rattle.std.proofs.Common.{◌≡◌, ℕ, zero, suc, ◌+◌, ◌-◌, ◌*◌, ◌<◌, ◌≤◌, Bool, true, false, List, [], ◌∷◌, length, get_or, drop, replicate, sym, refl, ap, ◌∙◌, subst, arith}
+use Rattle.std.proofs.Common.{◌≡◌, ℕ, zero, suc, ◌+◌, ◌-◌, ◌*◌, ◌<◌, ◌≤◌, Bool, true, false, List, [], ◌∷◌, length, get_or, drop, replicate, refl, ap, ◌∙◌, subst, arith}
 use Rattle.instructions.specs.declared.Instruction.{Instruction}
 use Rattle.instructions.specs.declared.Instruction.TheVariants.{Else, Again}
 use Rattle.program.specs.declared.opening.Opening.{Opening}
 use Rattle.program.specs.declared.opening.Opening.TheVariants.{Then}
 use Rattle.program.specs.Openings.{around}
 use Rattle.program.specs.Bounds.{bound}
-use Rattle.labels.specs.Kinds.{LabelKind, Within, Lawful, secrecy}
-use Rattle.labels.specs.Rules.{Way, Each, else_ways, Sub, marked, ways, Along, Keeps, Solves, Smallest}
+use Rattle.labels.specs.Kinds.{LabelKind, Lawful, secrecy}
+use Rattle.labels.specs.Rules.{Each, else_ways, Sub, marked, Along, Keeps, Solves}
 use Rattle.labels.specs.Sets.{bits, sets}
 use Rattle.labels.specs.Plans.{settled, labels_of}
 use Rattle.labels.specs.Theorems.{SmallestExists, Theory, with_const, without_const, ArmsByHand}

@@ -1,6 +1,6 @@
 -- The numbers that are reckoned are the smallest sets.
-use Rattle.std.proofs.Common.{◌≡◌, ℕ, zero, suc, ◌+◌, ◌-◌, ◌*◌, ◌^◌, ◌<◌, ◌≤◌, Bool, true, false, cond, not, ◌&&◌, ◌||◌, eqb, ltb, List, [], ◌∷◌, length, get_or, drop, set, replicate, sym, refl, ap, ◌∙◌, subst, arith, length-set}
-use lib.Bits.{bit_and, bit_or, bit_xor}
+use Rattle.std.proofs.Common.{◌≡◌, ℕ, zero, suc, ◌+◌, ◌*◌, ◌^◌, ◌<◌, ◌≤◌, Bool, true, false, cond, not, ◌&&◌, ◌||◌, eqb, ltb, List, [], ◌∷◌, length, get_or, drop, set, replicate, sym, refl, ap, ◌∙◌, subst, arith, length-set}
+use lib.Bits.{bit_and, bit_or}
 use Rattle.std.proofs.lemmas.Nat.{or_lt, xor_lt, and_le_l, pow_below}
 use Rattle.std.proofs.lemmas.List.{length-replicate}
 use Rattle.instructions.specs.declared.Op.{Op}
@@ -13,7 +13,7 @@ use Rattle.program.specs.Bounds.{bound_op, bound}
 use Rattle.program.proofs.Around.{around_next, around_none, drop_next, drop_at}
 use Rattle.labels.specs.Kinds.{secrecy}
 use Rattle.labels.specs.Rules.{Way, put, leaves, mask_of, ways, Smallest}
-use Rattle.labels.specs.Passes.{unmarked, Ahead, raised, passed, along, flow, opens, sweep, Rising}
+use Rattle.labels.specs.Passes.{unmarked, Ahead, raised, along, flow, opens, sweep, Rising}
 use Rattle.labels.specs.Sets.{bits, sets, room, Grew}
 use Rattle.labels.specs.Plans.{number_put, number_leaves, number_raised, numbers_along, numbers_flow, numbers_sweep, settled, labels_of}
 use Rattle.labels.proofs.Bits.{bits_or, bits_in, bits_out}

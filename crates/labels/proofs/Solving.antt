@@ -15,7 +15,7 @@ use Rattle.program.specs.Openings.{past, around}
 use Rattle.program.proofs.Around.{around_next, around_none, drop_next}
 use Rattle.labels.proofs.Orders.{same, further, equal, left, right, joined, upward}
 use Rattle.labels.specs.Kinds.{LabelKind, Within, Lawful}
-use Rattle.labels.specs.Rules.{Way, way, Each, else_ways, end_ways, again_ways, mark, Sub, read_by, written, put, leaves, label_of, marked, mask_of, ways, Along, Keeps, Solves, Smallest}
+use Rattle.labels.specs.Rules.{Way, Each, else_ways, mark, Sub, read_by, written, put, leaves, label_of, marked, mask_of, ways, Along, Keeps, Solves, Smallest}
 use Rattle.labels.specs.Passes.{marked_else, marked_end, marked_again, opens, raised, passed, along, flow, sweep, Rising}
 
 eqb_is : (p q : ℕ) → eqb p q ≡ true → p ≡ q

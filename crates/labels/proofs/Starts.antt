@@ -1,5 +1,5 @@
 -- No move enters place 0: the smallest labels there are the entry labels.
-use Rattle.std.proofs.Common.{◌≡◌, ℕ, zero, suc, ◌<◌, Bool, true, false, List, [], ◌∷◌, drop, sym, refl, ap, ◌∙◌, subst, arith}
+use Rattle.std.proofs.Common.{◌≡◌, ℕ, zero, suc, ◌<◌, Bool, true, false, List, [], ◌∷◌, refl, subst, arith}
 use mathlib.Core.Path.{fun_ext}
 use Rattle.instructions.specs.declared.Instruction.{Instruction}
 use Rattle.instructions.specs.declared.Instruction.TheVariants.{Do, If, Else, End, Repeat, Again}
@@ -9,7 +9,7 @@ use Rattle.program.specs.Openings.{around}
 use Rattle.program.proofs.Around.{AllBefore, before_around}
 use Rattle.labels.proofs.Orders.{same, further, equal}
 use Rattle.labels.specs.Kinds.{LabelKind, Within, Lawful}
-use Rattle.labels.specs.Rules.{Way, Each, else_ways, end_ways, again_ways, Sub, marked, mask_of, ways, Along, Keeps, Solves, Smallest}
+use Rattle.labels.specs.Rules.{Way, Each, else_ways, Sub, marked, ways, Along, Keeps, Solves, Smallest}
 use Rattle.labels.proofs.Solving.{Le, leaves_mono, less_mask, less_ways, less_marked}
 
 -- a way to another place than 0

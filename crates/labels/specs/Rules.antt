@@ -1,6 +1,6 @@
 -- The rules: which labels the registers have on arriving at each place. `S p r` is the label of
 -- register r on arriving at place p; for plain labels, S p is the set of secret registers.
-use Rattle.std.specs.Prelude.{◌≡◌, ℕ, zero, suc, Bool, true, false, cond, List, [], ◌∷◌, drop, ◌==◌}
+use Rattle.std.specs.Prelude.{◌≡◌, ℕ, suc, Bool, true, false, cond, List, [], ◌∷◌, drop, ◌==◌}
 use Rattle.instructions.specs.declared.Value.{Value}
 use Rattle.instructions.specs.declared.Value.TheVariants.{Const, Move, Binary, Shift}
 use Rattle.instructions.specs.declared.Op.{Op}

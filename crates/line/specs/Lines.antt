@@ -6,9 +6,9 @@ use Rattle.std.specs.List.{slice_get}
 use Rattle.std.specs.Option.{option_map}
 use Rattle.program.specs.declared.refusal.Refusal.{Refusal}
 use Rattle.memory.specs.declared.Access.{Access}
-use Rattle.memory.specs.Description.{Mark, Rules, Description, held, free, marked}
+use Rattle.memory.specs.Description.{Mark, Description, held, free, marked}
 use Rattle.memory.specs.Accesses.{denial, denied, left}
-use Rattle.memory.specs.Laws.{Within, Lawful}
+use Rattle.memory.specs.Laws.{Lawful}
 use Rattle.line.specs.Line.{line_of, line_rules, line_over}
 
 pub nth_map : {X Y : Type 0} (f : X → Y) (xs : List X) (j : ℕ) → slice_get (map f xs) j ≡ option_map f (slice_get xs j)

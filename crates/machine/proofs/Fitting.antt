@@ -1,5 +1,5 @@
 -- The bounds of an instruction, from test to facts.
-use Rattle.std.proofs.Common.{◌≡◌, ℕ, ◌<◌, ◌≤◌, Bool, true, false, ◌&&◌, ltb, leb, arith}
+use Rattle.std.proofs.Common.{◌≡◌, ℕ, ◌<◌, ◌≤◌, true, ◌&&◌, ltb, leb, arith}
 use Rattle.std.proofs.lemmas.Bool.{ltb-true, leb-true, and_parts}
 use Rattle.instructions.specs.declared.Value.{Value}
 use Rattle.instructions.specs.declared.Value.TheVariants.{Const, Move, Binary, Shift}

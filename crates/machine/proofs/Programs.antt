@@ -1,5 +1,5 @@
 -- What a program's invariant says of its instructions.
-use Rattle.std.proofs.Common.{◌≡◌, ℕ, ◌≤◌, List, [], length, None, vec_items, arith, length-take}
+use Rattle.std.proofs.Common.{◌≡◌, ◌≤◌, [], length, None, vec_items, arith, length-take}
 use Rattle.program.specs.declared.header.Kind.{Kind}
 use Rattle.program.specs.declared.header.Kind.TheVariants.{Source, Converted}
 use Rattle.program.specs.declared.program.Program.{Program}

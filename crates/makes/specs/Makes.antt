@@ -1,5 +1,5 @@
 -- How a leaf begins.
-use Rattle.std.specs.Prelude.{ℕ, ◌-◌, List, [], ◌++◌, length, take, replicate}
+use Rattle.std.specs.Prelude.{ℕ, ◌-◌, List, ◌++◌, length, take, replicate}
 use Rattle.memory.specs.Description.{Description}
 use Rattle.leaf.specs.Leaves.{leaf}
 use Rattle.flat.specs.Flat.{flat}

@@ -1,5 +1,5 @@
 -- Counting the secret ifs among openings.
-use Rattle.std.proofs.Common.{◌≡◌, ℕ, ◌+◌, ◌<◌, ◌≤◌, Bool, true, false, ◌||◌, ltb, List, [], ◌∷◌, length, sym, refl, ap, ◌∙◌, arith}
+use Rattle.std.proofs.Common.{◌≡◌, ℕ, ◌+◌, ◌≤◌, Bool, true, false, ◌||◌, ltb, List, [], ◌∷◌, length, refl, ap, ◌∙◌, arith}
 use mir.Val.{bool_byte}
 use Rattle.program.specs.declared.opening.Marked.{Marked}
 use Rattle.labels.specs.Kinds.{secrecy}

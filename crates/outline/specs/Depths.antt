@@ -1,5 +1,5 @@
 -- How many openings are open around a line, and how far in it stands.
-use Rattle.std.specs.Prelude.{ℕ, suc, pred}
+use Rattle.std.specs.Prelude.{ℕ, pred}
 use Rattle.instructions.specs.declared.Instruction.{Instruction}
 use Rattle.instructions.specs.declared.Instruction.TheVariants.{Do, If, Else, End, Repeat, Again}
 

@@ -1,25 +1,22 @@
 -- The steps of a pass, as the code takes them.
-use Rattle.std.proofs.Common.{◌≡◌, ℕ, zero, suc, ◌+◌, ◌-◌, ◌<◌, ◌≤◌, Bool, true, false, ◌&&◌, ltb, List, [], ◌∷◌, ◌++◌, length, get_or, take, drop, is_some, sym, refl, ap, ◌∙◌, subst, arith, length-take}
-use Rattle.instructions.specs.declared.Op.{Op}
+use Rattle.std.proofs.Common.{◌≡◌, ℕ, zero, suc, ◌+◌, ◌<◌, ◌≤◌, Bool, true, false, ◌&&◌, ltb, List, [], ◌∷◌, ◌++◌, length, get_or, take, is_some, sym, ap, ◌∙◌, arith, length-take}
 use Rattle.instructions.specs.declared.Op.TheVariants.{Set, Pick, Load, Store}
 use Rattle.instructions.specs.declared.Instruction.{Instruction}
 use Rattle.instructions.specs.declared.Instruction.TheVariants.{Do, If, Else, End, Repeat, Again}
 use Rattle.program.specs.declared.header.Header.{Header}
-use Rattle.program.specs.declared.header.Kind.{Kind}
-use Rattle.program.specs.declared.header.Kind.TheVariants.{Source, Converted}
+use Rattle.program.specs.declared.header.Kind.TheVariants.{Source}
 use Rattle.program.specs.Headers.{registers_of}
-use Rattle.program.specs.Bounds.{bound_value, bound_op, bound}
+use Rattle.program.specs.Bounds.{bound}
 use Rattle.program.specs.Pairing.{pairing}
 use Rattle.program.proofs.Around.{few_around}
 use Rattle.labels.specs.Kinds.{secrecy}
 use Rattle.labels.specs.Rules.{way, Smallest}
-use Rattle.labels.specs.Passes.{passed, along, Rising}
+use Rattle.labels.specs.Passes.{passed, along}
 use Rattle.labels.specs.Sets.{bits, sets, secret_tables}
 use Rattle.labels.proofs.Plain.{plain}
 use Rattle.labels.proofs.Solving.{unique}
 use Rattle.labels.proofs.Numbers.{same_plan}
 use Rattle.labels.proofs.Reckoning.{reckoned}
-use Rattle.labels.proofs.Passing.{rising_start}
 use Rattle.std.proofs.lemmas.List.{get_or-take}
 use Rattle.plan.specs.Planned.{Passable, plan_of}
 

@@ -1,5 +1,5 @@
 -- Tests over the numbers from 0.
-use Rattle.std.specs.Prelude.{ℕ, zero, suc, Bool, true, ◌&&◌, Some, None, Option}
+use Rattle.std.specs.Prelude.{ℕ, zero, suc, Bool, true, ◌&&◌, None, Option}
 use Rattle.program.specs.declared.refusal.Reason.{Reason}
 use Rattle.program.specs.declared.refusal.Refusal.{Refusal}
 use Rattle.program.specs.Refusals.{unless, or_else}

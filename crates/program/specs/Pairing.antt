@@ -1,5 +1,5 @@
 -- How brackets pair, at most eight openings open together.
-use Rattle.std.specs.Prelude.{ℕ, suc, Bool, List, [], ◌∷◌, length, Some, None, Option, nat_lt}
+use Rattle.std.specs.Prelude.{ℕ, suc, List, [], ◌∷◌, length, Some, None, Option, nat_lt}
 use Rattle.program.specs.declared.refusal.Refusal.{Refusal}
 use Rattle.program.specs.declared.refusal.Reason.TheVariants.{BadBracket, TooDeep}
 use Rattle.program.specs.declared.opening.Opening.{Opening}

@@ -1,5 +1,5 @@
 -- What the loop of a run keeps.
-use Rattle.std.proofs.Common.{◌≡◌, ℕ, suc, ◌+◌, ◌-◌, ◌<◌, ◌≤◌, Bool, true, false, cond, ltb, leb, List, [], ◌∷◌, ◌++◌, map, length, get_or, drop, set, None, Option, sym, refl, ap, ◌∙◌, subst, add-one, arith, length-append}
+use Rattle.std.proofs.Common.{◌≡◌, ℕ, suc, ◌+◌, ◌-◌, ◌<◌, ◌≤◌, true, false, cond, ltb, leb, List, [], ◌∷◌, ◌++◌, map, length, get_or, drop, set, None, Option, sym, refl, ap, ◌∙◌, subst, add-one, arith, length-append}
 use Rattle.std.proofs.lemmas.List.{append-nil, append_assoc, get_or-map, drop_more, set_at, length_push}
 use Rattle.std.proofs.lemmas.Bool.{lt-ltb, leb-true, leb-false, eq-eqb, ne_eqb}
 use Rattle.instructions.specs.declared.Op.{Op}
@@ -24,7 +24,7 @@ use Rattle.machine.specs.Programs.{code_of}
 use Rattle.machine.proofs.Programs.{code_long}
 use Rattle.machine.specs.States.{Event, visit, reads, writes, held}
 use Rattle.machine.specs.Machine.{length_of, loads, stores, Conf, go, stop, state_of, land, step, next, steps, first, start, count}
-use Rattle.machine.specs.Most.{each_step, hold, weigh, most_of}
+use Rattle.machine.specs.Most.{each_step, weigh, most_of}
 use Rattle.execution.specs.Runs.{Able}
 use Rattle.execution.proofs.Counted.{counted}
 use Rattle.execution.proofs.Onward.{steps_more, onward, finished, weighs, comes, over_at_end}
@@ -32,7 +32,7 @@ use Rattle.counting.specs.Counting.{mark_price, most_steps, most_marks}
 use Rattle.counting.proofs.Sums.{sums_is}
 use Rattle.repeats.specs.declared.Move.{Move}
 use Rattle.windows.specs.declared.Window.{Window}
-use Rattle.windows.specs.Windows.{no_window, window_of, Laid}
+use Rattle.windows.specs.Windows.{no_window, Laid}
 use Rattle.windows.proofs.Laying.{within_all}
 use Rattle.stepping.specs.Turns.{Allowed, ReadyOp, Ready}
 use Rattle.run.specs.declared.Outcome.{Outcome}

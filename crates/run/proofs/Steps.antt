@@ -1,5 +1,5 @@
 -- What one turn of the code does is one step of the machine.
-use Rattle.std.proofs.Common.{◌≡◌, ℕ, zero, suc, pred, ◌+◌, ◌-◌, ◌<◌, ◌≤◌, min, Bool, true, false, cond, eqb, ltb, ◌⊎◌, List, [], ◌∷◌, ◌++◌, map, length, get_or, drop, set, sym, refl, ap, ◌∙◌, subst, ⊎_elim, add-one, sub-one, arith, length-set}
+use Rattle.std.proofs.Common.{◌≡◌, ℕ, zero, suc, pred, ◌+◌, ◌-◌, ◌<◌, ◌≤◌, min, true, false, cond, eqb, ltb, List, [], ◌∷◌, ◌++◌, map, length, drop, set, sym, refl, ap, ◌∙◌, subst, ⊎_elim, add-one, sub-one, arith, length-set}
 use mathlib.Core.Path.{fun_ext}
 use lib.Dec.{eqb-zero-suc, eqb-suc-zero, eqb-suc-suc}
 use Rattle.std.proofs.lemmas.List.{append-nil, get_or-map}
@@ -16,7 +16,6 @@ use Rattle.memory.specs.declared.Access.TheVariants.{Read, Write}
 use Rattle.memory.specs.Description.{Description, marked, free}
 use Rattle.memory.specs.Laws.{Lawful, Within}
 use Rattle.machine.specs.declared.repeat.OpenRepeat.{OpenRepeat}
-use Rattle.machine.specs.declared.visit.Visit.{Visit}
 use Rattle.machine.specs.Fits.{FitOp, Fit}
 use Rattle.machine.specs.Words.{value_of}
 use Rattle.machine.specs.States.{Event, visit, reads, writes, State, held, changed}

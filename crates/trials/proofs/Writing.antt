@@ -1,5 +1,5 @@
 -- What writing a program leaves, where the program was read from an image.
-use Rattle.std.proofs.Common.{◌≡◌, ℕ, Bool, true, false, cond, ltb, List, ◌++◌, length, drop, replicate, Ok, Err, vec_items, Result, sym, ap, ◌∙◌, arith, length-append}
+use Rattle.std.proofs.Common.{◌≡◌, ℕ, Bool, true, false, cond, ltb, List, ◌++◌, length, drop, replicate, Ok, Err, vec_items, Result, ap, ◌∙◌, arith, length-append}
 use Rattle.std.proofs.lemmas.List.{length-take-le}
 use Rattle.program.specs.declared.program.Program.{Program}
 use Rattle.program.specs.declared.refusal.Refusal.{Refusal}

@@ -1,5 +1,5 @@
 -- How a case gives an image.
-use Rattle.std.specs.Prelude.{◌≡◌, ℕ, Bool, true, false, List, [], codes, MatchBool}
+use Rattle.std.specs.Prelude.{◌≡◌, ℕ, List, [], codes, MatchBool}
 use Rattle.std.specs.Str.{bytes_eq}
 use Rattle.hexadecimal.specs.Spelling.{Spells}
 

@@ -1,17 +1,15 @@
-use Rattle.std.proofs.Common.{◌≡◌, ℕ, ◌+◌, ◌-◌, ◌<◌, ◌≤◌, [], length, take, Some, None, vec_items, sym, refl, ap, ◌∙◌, subst, arith, rules}
+use Rattle.std.proofs.Common.{◌≡◌, ◌+◌, ◌-◌, ◌≤◌, [], length, Some, None, sym, ap, ◌∙◌, subst, arith}
 use Rattle.std.proofs.lemmas.Result.{err_from_is_err_and}
-use Rattle.program.specs.declared.header.Kind.TheVariants.{Source}
 use Rattle.program.specs.Refusals.{or_else}
 use Rattle.labels.specs.Sets.{sets, secret_tables}
-use Rattle.plan.specs.Planned.{plan_of, Passable}
+use Rattle.plan.specs.Planned.{Passable}
 use Rattle.machine.specs.Programs.{code_of}
 use Rattle.machine.proofs.Programs.{code_long}
 use Rattle.counting.specs.Counting.{Countable}
 use Rattle.groups.specs.Groups.{lengths}
-use Rattle.groups.specs.Outputs.{written}
 use Rattle.converter.specs.Conversion.{convert}
 use Rattle.converter.specs.Refusing.{hidden_by, first_wrong}
-use Rattle.converter.specs.Converting.{result_of, place_refusal, size_refusal, convert_refusal}
+use Rattle.converter.specs.Converting.{result_of, place_refusal, size_refusal}
 use Rattle.converter.proofs.Results.{source_there, always_made, answer_is, source_short, source_passable, plan_long, plan_there, result_countable}
 use Rattle.converter.proofs.attempt.Goals as goal
 

@@ -1,9 +1,7 @@
-use Rattle.std.proofs.Common.{◌≡◌, ℕ, ◌+◌, ◌<◌, ◌≤◌, [], ◌++◌, length, take, drop, vec_items, sym, refl, ap, ◌∙◌, subst, arith, rules}
+use Rattle.std.proofs.Common.{◌≡◌, ◌++◌, length, take, drop, vec_items, sym, refl, ap, ◌∙◌, subst, arith}
 use Rattle.std.proofs.lemmas.List.{take_at, length-take-le}
-use Rattle.program.specs.declared.header.Header.{Header}
 use Rattle.program.specs.Sound.{SoundHeader, SoundList}
 use Rattle.machine.specs.Programs.{code_of}
-use Rattle.groups.specs.Outputs.{written}
 use Rattle.converter.specs.Converting.{result_of, result_header, convert_refusal}
 use Rattle.converter.proofs.Results.{source_there, room_there, sound_header, sound_list, straight}
 use Rattle.converter.proofs.convert.Goals as goal

@@ -1,4 +1,4 @@
-use Rattle.std.proofs.Common.{◌≡◌, [], ap, ◌∙◌}
+use Rattle.std.proofs.Common.{[], ap, ◌∙◌}
 use Rattle.counting.specs.Counting.{sums}
 use Rattle.counting.proofs.Adding.{steps_alone}
 use Rattle.counting.proofs.most_steps_of.Goals as goal

@@ -1,6 +1,5 @@
-use Rattle.std.proofs.Common.{◌≡◌, ℕ, ◌+◌, ◌<◌, length, sym, ap, ◌∙◌, arith}
+use Rattle.std.proofs.Common.{◌≡◌, ℕ, ◌+◌, length, sym, ap, ◌∙◌, arith}
 use Rattle.std.proofs.lemmas.List.{length-set}
-use Rattle.program.specs.declared.header.Table.{Table}
 use Rattle.program.specs.Headers.{cells_of}
 use Rattle.machine.specs.Machine.{length_of}
 use Rattle.windows.specs.declared.Window.{Window}

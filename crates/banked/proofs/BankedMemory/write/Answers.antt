@@ -1,4 +1,4 @@
-use Rattle.std.proofs.Common.{◌≡◌, ◌+◌, ◌<◌, vec_items, sym, refl, ◌∙◌, arith}
+use Rattle.std.proofs.Common.{◌+◌, vec_items, refl, arith}
 use Rattle.memory.specs.declared.Access.TheVariants.{Write}
 use Rattle.memory.proofs.Accepted.{not_denied}
 use Rattle.leaf.proofs.Noted.{leaf_room, leaf_write}

@@ -1,4 +1,4 @@
-use Rattle.std.proofs.Common.{◌≡◌, ◌+◌, ◌<◌, ◌≤◌, ◌∷◌, length, drop, sym, ap, ◌∙◌, subst, rules}
+use Rattle.std.proofs.Common.{◌+◌, ◌<◌, ◌≤◌, ◌∷◌, length, drop, sym, ap, ◌∙◌, subst, rules}
 use Rattle.std.proofs.lemmas.List.{get_or_default, drop_more}
 use Rattle.instructions.specs.declared.Instruction.TheVariants.{Again}
 use Rattle.machine.specs.Fits.{Fit}

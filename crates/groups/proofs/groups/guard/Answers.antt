@@ -1,6 +1,6 @@
-use Rattle.std.proofs.Common.{◌≡◌, ◌++◌, arith}
+use Rattle.std.proofs.Common.{arith}
 use Rattle.groups.specs.Groups.{guard_start, and_mask, guard_mark}
-use Rattle.groups.proofs.Writes.{then_two, then_three}
+use Rattle.groups.proofs.Writes.{then_three}
 use Rattle.groups.proofs.groups.guard.Goals as goal
 
 pub returns : goal.returns

@@ -1,4 +1,4 @@
-use Rattle.std.proofs.Common.{◌≡◌, arith}
+use Rattle.std.proofs.Common.{arith}
 use Rattle.groups.specs.Groups.{in_range, first_bad}
 use Rattle.groups.proofs.Writes.{then_two}
 use Rattle.groups.proofs.groups.guard_start.Goals as goal

@@ -1,4 +1,4 @@
-use Rattle.std.proofs.Common.{◌≡◌, arith}
+use Rattle.std.proofs.Common.{arith}
 use Rattle.groups.specs.Groups.{and_mask, is_set}
 use Rattle.groups.proofs.Writes.{then_two}
 use Rattle.groups.proofs.groups.if_group.Goals as goal

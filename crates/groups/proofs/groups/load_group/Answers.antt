@@ -1,4 +1,4 @@
-use Rattle.std.proofs.Common.{◌≡◌, arith}
+use Rattle.std.proofs.Common.{arith}
 use Rattle.groups.specs.Groups.{guard, load_end}
 use Rattle.groups.proofs.Writes.{then_two}
 use Rattle.groups.proofs.groups.load_group.Goals as goal

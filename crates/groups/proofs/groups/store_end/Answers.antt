@@ -1,4 +1,4 @@
-use Rattle.std.proofs.Common.{◌≡◌, arith}
+use Rattle.std.proofs.Common.{arith}
 use Rattle.groups.specs.Groups.{and_mask, exchange}
 use Rattle.groups.proofs.Writes.{then_two}
 use Rattle.groups.proofs.groups.store_end.Goals as goal

@@ -1,4 +1,4 @@
-use Rattle.std.proofs.Common.{◌≡◌, arith}
+use Rattle.std.proofs.Common.{arith}
 use Rattle.groups.specs.Groups.{guard, store_end}
 use Rattle.groups.proofs.Writes.{then_two}
 use Rattle.groups.proofs.groups.store_group.Goals as goal

@@ -1,4 +1,4 @@
-use Rattle.std.proofs.Common.{◌≡◌, ◌+◌, ◌<◌, ◌≤◌, ◌++◌, length, get_or, take, sym, ap, ◌∙◌, add-zero, arith, length-set}
+use Rattle.std.proofs.Common.{◌≡◌, ◌+◌, ◌++◌, length, take, sym, ap, ◌∙◌, add-zero, arith, length-set}
 use Rattle.std.proofs.lemmas.List.{append-nil, take_all, get_or_default}
 use Rattle.groups.specs.Groups.{straight}
 use Rattle.groups.proofs.Writes.{copy_more}

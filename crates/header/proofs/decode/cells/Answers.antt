@@ -1,4 +1,4 @@
-use Rattle.std.proofs.Common.{false, sym, ap, ◌∙◌, arith, rules}
+use Rattle.std.proofs.Common.{false, ap, ◌∙◌, arith, rules}
 use Rattle.program.specs.declared.header.Table.{Table}
 use Rattle.program.specs.Headers.{cells_of}
 use Rattle.std.proofs.lemmas.List.Sums.{sum_by_more}

@@ -1,4 +1,4 @@
-use Rattle.std.proofs.Common.{◌≡◌, ℕ, ◌<◌, true, false, length, get_or}
+use Rattle.std.proofs.Common.{◌≡◌, ℕ, ◌<◌, true, length, get_or}
 use Rattle.program.specs.declared.header.Table.{Table}
 use Rattle.header.specs.Layout.{entry_good, table_at}
 use Rattle.header.proofs.decode.tables.Given as goal

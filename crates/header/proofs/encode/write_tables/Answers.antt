@@ -1,6 +1,5 @@
-use Rattle.std.proofs.Common.{◌≡◌, length, take, refl, ap, ◌∙◌, arith}
+use Rattle.std.proofs.Common.{take, arith}
 use Rattle.std.proofs.lemmas.List.{length-take-le}
-use Rattle.program.specs.declared.header.Table.{Table}
 use Rattle.header.specs.Layout.{entry_bytes}
 use Rattle.header.proofs.Parts.{items_none, items_more, items_all, front_of}
 use Rattle.header.proofs.Written.{length_entry}

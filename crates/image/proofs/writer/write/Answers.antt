@@ -1,7 +1,6 @@
-use Rattle.std.proofs.Common.{◌≡◌, ◌+◌, ◌*◌, ◌≤◌, ◌++◌, length, take, drop, Ok, sym, refl, ap, ◌∙◌, subst, arith}
+use Rattle.std.proofs.Common.{◌+◌, ◌*◌, ◌≤◌, ◌++◌, length, take, drop, Ok, sym, ap, ◌∙◌, subst, arith}
 use Rattle.header.specs.Layout.{header_bytes}
-use Rattle.image.specs.Images.{image_of, image_length}
-use Rattle.image.specs.Reading.{code_in}
+use Rattle.image.specs.Images.{image_length}
 use Rattle.image.specs.Writing.{ReadAs}
 use Rattle.image.proofs.Writing.{answered, bytes_are, reread}
 use Rattle.image.proofs.writer.write.Goals as goal

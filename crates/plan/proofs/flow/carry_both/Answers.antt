@@ -1,4 +1,4 @@
-use Rattle.std.proofs.Common.{◌≡◌, sym, ap, ◌∙◌, subst}
+use Rattle.std.proofs.Common.{sym, ap, ◌∙◌, subst}
 use Rattle.labels.specs.Kinds.{secrecy}
 use Rattle.labels.specs.Rules.{way}
 use Rattle.labels.specs.Passes.{passed}

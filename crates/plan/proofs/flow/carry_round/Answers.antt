@@ -1,4 +1,4 @@
-use Rattle.std.proofs.Common.{◌≡◌, sym, subst}
+use Rattle.std.proofs.Common.{sym, subst}
 use Rattle.labels.specs.Sets.{sets, Grew}
 use Rattle.labels.proofs.Rows.{grew_both}
 use Rattle.plan.proofs.Steps.{sets_round}

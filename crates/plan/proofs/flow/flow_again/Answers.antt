@@ -1,4 +1,4 @@
-use Rattle.std.proofs.Common.{◌≡◌, ℕ, suc, List, [], ◌∷◌, sym, ap, ◌∙◌, rules}
+use Rattle.std.proofs.Common.{◌≡◌, suc, [], ◌∷◌, sym, ap, ◌∙◌, rules}
 use Rattle.instructions.specs.declared.Instruction.TheVariants.{Again}
 use Rattle.stack.specs.Held.{held}
 use Rattle.labels.specs.Kinds.{secrecy}

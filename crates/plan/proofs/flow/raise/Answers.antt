@@ -1,4 +1,4 @@
-use Rattle.std.proofs.Common.{◌≡◌, ◌<◌, not, eqb, get_or, set, sym, refl, subst}
+use Rattle.std.proofs.Common.{◌<◌, not, eqb, get_or, set, sym, refl, subst}
 use Rattle.labels.specs.Sets.{Grew}
 use Rattle.labels.proofs.Rows.{sets-raised, grew_raise}
 use Rattle.plan.proofs.flow.raise.Goals as goal

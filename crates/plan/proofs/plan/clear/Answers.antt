@@ -1,4 +1,4 @@
-use Rattle.std.proofs.Common.{◌≡◌, ℕ, ◌≢◌, length, get_or, replicate, ap, ◌∙◌, arith, get_or-set_other, get_or-set_same, rules}
+use Rattle.std.proofs.Common.{◌≡◌, ◌≢◌, length, get_or, replicate, ap, ◌∙◌, arith, get_or-set_other, get_or-set_same}
 use Rattle.labels.proofs.Reckoning.{zeros}
 use Rattle.plan.proofs.plan.clear.Goals as goal
 

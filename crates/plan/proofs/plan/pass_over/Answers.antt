@@ -1,13 +1,12 @@
-use Rattle.std.proofs.Common.{◌≡◌, ℕ, ◌+◌, ◌<◌, ◌≤◌, [], length, get_or, drop, sym, refl, ap, ◌∙◌, subst, arith, rules}
+use Rattle.std.proofs.Common.{◌+◌, ◌<◌, ◌≤◌, length, drop, sym, ap, ◌∙◌, subst, arith, rules}
 use Rattle.std.proofs.lemmas.List.{get_or_default}
 use Rattle.instructions.specs.declared.Instruction.TheVariants.{Again}
 use Rattle.stack.specs.Held.{held}
 use Rattle.program.specs.Bounds.{bound}
-use Rattle.program.specs.Openings.{around}
 use Rattle.program.proofs.Around.{around_none}
 use Rattle.labels.specs.Kinds.{secrecy}
 use Rattle.labels.specs.Passes.{unmarked, sweep}
-use Rattle.labels.specs.Sets.{sets, bits, secret_tables, Grew}
+use Rattle.labels.specs.Sets.{sets, secret_tables, Grew}
 use Rattle.labels.proofs.Rows.{grew_none, grew_both}
 use Rattle.labels.proofs.Passing.{ahead, around_more, few_more, sweep_more, sweep_end}
 use Rattle.plan.proofs.plan.pass_over.Goals as goal

@@ -1,5 +1,4 @@
-use Rattle.std.proofs.Common.{◌≡◌, Some, None, rules}
-use Rattle.program.specs.declared.refusal.Reason.TheVariants.{BadBracket}
+use Rattle.std.proofs.Common.{rules}
 use Rattle.brackets.proofs.Nesting.{paired_is_nested}
 use Rattle.brackets.proofs.matcher.Matcher.finish.Goals as goal
 
