@@ -37,7 +37,7 @@ fn a_scan_shows_every_offset(rt: HostRuntime) -> Result<(), Fail> {
     let mut memory = FullScan::new(Flat::new(cells, list));
     assert!(rt; scans(&mut memory));
     let (cells, _list) = memory.into_below().into_parts();
-    assert!(rt; cells.as_slice() == &[5, 6, 7, 9]);
+    assert!(rt; cells.as_slice() == [5, 6, 7, 9].as_slice());
     Ok(())
 }
 
