@@ -3,7 +3,7 @@ ghost use Rattle.std.specs.Prelude.{◌≡◌, ℕ, ◌+◌, ◌*◌, ◌≤◌,
 ghost use Rattle.program.specs.Refusals.{refused_by};
 ghost use Rattle.program.specs.Pairing.{pairing};
 ghost use Rattle.header.specs.Layout.{header_at};
-ghost use Rattle.image.specs.Images.{instructions as instructionsOf, fields_refusal, image_refusal};
+ghost use Rattle.image.specs.Images.{instructions as instructions_of, fields_refusal, image_refusal};
 ghost use Rattle.image.specs.Reading.{Reads, Rewrites, Nests};
 
 use brackets::matcher::Matcher;
@@ -38,7 +38,7 @@ fn check_fields(body: &[u8], header: &Header) -> Result<(), Refusal>
 
 fn check_brackets(body: &[u8], n: usize) -> Result<(), Refusal>
     requires { length body.now ≡ 8 * n }
-    ensures { refused_by result ≡ pairing [] 0 (instructionsOf body.now n) }
+    ensures { refused_by result ≡ pairing [] 0 (instructions_of body.now n) }
 {
     let mut matcher = Matcher::new();
     for place in 0..n {
@@ -49,7 +49,7 @@ fn check_brackets(body: &[u8], n: usize) -> Result<(), Refusal>
 
 fn fill(body: &[u8], n: usize, list: &mut Vec<Instruction>)
     requires { (length body.now ≡ 8 * n) × (n ≤ length list.old.items) }
-    ensures { list.new.items ≡ instructionsOf body.now n ++ drop n list.old.items }
+    ensures { list.new.items ≡ instructions_of body.now n ++ drop n list.old.items }
 {
     for place in 0..n {
         list[place] = codec::instruction(Fields::at(body, place));

@@ -1,9 +1,5 @@
 -- What reading a source gives: a sound header, and as many sound instructions as it says.
-use mathlib.Core.Path.{◌≡◌}
-use mathlib.Core.Bool.{Bool}
-use mathlib.Core.List.{List, []}
-use Prim.Native.Nat.{ℕ}
-use lib.ListN.{length}
+use Rattle.std.specs.Prelude.{◌≡◌, Bool, List, [], ℕ, length}
 use Rattle.instructions.specs.declared.Instruction.{Instruction}
 use Rattle.program.specs.declared.header.Header.{Header}
 use Rattle.program.specs.declared.header.Kind.TheVariants.{Source}

@@ -1,2 +1,3 @@
 // A source as nested blocks, and what those become.
+
 #![tactic(auto)]
