@@ -7,7 +7,6 @@ mod pairs;
 use image::reader::read;
 use instructions::Instruction;
 use std::alloc::{AllocError, Global};
-use std::process::Abort;
 use std::test::Fail;
 
 /// An empty source but for the header bytes that are set, and the instructions.
@@ -41,7 +40,6 @@ fn answer(heap: Global, image: &[u8], room: usize) -> Result<(u8, usize), AllocE
 
 /// Reading such an image, with room for every program, answers so.
 fn expect(
-    rt: &impl Abort,
     heap: Global,
     set: &[(usize, u8)],
     code: &[[u8; 8]],
@@ -49,6 +47,10 @@ fn expect(
     place: usize,
 ) -> Result<(), Fail> {
     let image = image_of(heap, set, code)?;
-    assert_eq!(rt; answer(heap, &image, 3000)?, (number, place));
-    Ok(())
+    let (answered, at) = answer(heap, &image, 3000)?;
+    if answered == number && at == place {
+        Ok(())
+    } else {
+        Err(Fail::new(format_args!("{answered} at {at} in place of {number} at {place}")))
+    }
 }

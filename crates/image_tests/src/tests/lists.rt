@@ -3,7 +3,6 @@ use crate::tests::{answer, image_of};
 use image::reader::read;
 use image::writer::write;
 use instructions::{Instruction, Op, Value};
-use std::process::Abort;
 use std::test::Fail;
 
 const MOVE: [u8; 8] = [1, 2, 3, 0, 0, 0, 0, 0];
@@ -60,7 +59,7 @@ fn the_byte_list(rt: HostRuntime) -> Result<(), Fail> {
     };
     let mut out = vec![in heap; 7u8; 73]?;
     assert_eq!(rt; write(&program, &mut out).ok(), Some(72));
-    image_then_seven(&rt, &image, &out);
+    image_then_seven(&image, &out)?;
     let mut short = vec![in heap; 7u8; 71]?;
     match write(&program, &mut short) {
         Ok(_) => return Err(Fail::new("written")),
@@ -70,8 +69,10 @@ fn the_byte_list(rt: HostRuntime) -> Result<(), Fail> {
     Ok(())
 }
 
-fn image_then_seven(rt: &impl Abort, image: &Vec<u8>, out: &Vec<u8>) {
-    assert!(rt; out.len() == 73);
-    assert!(rt; &out.as_slice()[0..72] == image.as_slice());
-    assert_eq!(rt; out[72], 7);
+fn image_then_seven(image: &Vec<u8>, out: &Vec<u8>) -> Result<(), Fail> {
+    if out.len() == 73 && &out.as_slice()[0..72] == image.as_slice() && out[72] == 7 {
+        Ok(())
+    } else {
+        Err(Fail::new("other bytes"))
+    }
 }

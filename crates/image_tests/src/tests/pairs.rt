@@ -17,11 +17,10 @@ const BAD: [u8; 8] = [21, 0, 0, 0, 0, 0, 0, 0];
 #[test]
 fn pairs(rt: HostRuntime) -> Result<(), Fail> {
     let heap = rt.alloc();
-    expect(&rt, heap, &[], &[IF, END], 0, 2)?;
-    expect(&rt, heap, &[], &[IF, ELSE, END], 0, 3)?;
-    expect(&rt, heap, &[], &[REPEAT, IF, ELSE, END, AGAIN], 0, 5)?;
+    expect(heap, &[], &[IF, END], 0, 2)?;
+    expect(heap, &[], &[IF, ELSE, END], 0, 3)?;
+    expect(heap, &[], &[REPEAT, IF, ELSE, END, AGAIN], 0, 5)?;
     expect(
-        &rt,
         heap,
         &[],
         &[IF, REPEAT, AGAIN, ELSE, REPEAT, AGAIN, END],
@@ -33,31 +32,30 @@ fn pairs(rt: HostRuntime) -> Result<(), Fail> {
 #[test]
 fn what_closes_nothing_fitting(rt: HostRuntime) -> Result<(), Fail> {
     let heap = rt.alloc();
-    expect(&rt, heap, &[], &[ELSE], 6, 0)?;
-    expect(&rt, heap, &[], &[END], 6, 0)?;
-    expect(&rt, heap, &[], &[AGAIN], 6, 0)?;
-    expect(&rt, heap, &[], &[IF, AGAIN], 6, 1)?;
-    expect(&rt, heap, &[], &[REPEAT, END], 6, 1)?;
-    expect(&rt, heap, &[], &[REPEAT, ELSE], 6, 1)?;
-    expect(&rt, heap, &[], &[IF, ELSE, ELSE, END], 6, 2)?;
-    expect(&rt, heap, &[], &[IF, ELSE, AGAIN], 6, 2)?;
-    expect(&rt, heap, &[], &[END, BAD], 5, 1)
+    expect(heap, &[], &[ELSE], 6, 0)?;
+    expect(heap, &[], &[END], 6, 0)?;
+    expect(heap, &[], &[AGAIN], 6, 0)?;
+    expect(heap, &[], &[IF, AGAIN], 6, 1)?;
+    expect(heap, &[], &[REPEAT, END], 6, 1)?;
+    expect(heap, &[], &[REPEAT, ELSE], 6, 1)?;
+    expect(heap, &[], &[IF, ELSE, ELSE, END], 6, 2)?;
+    expect(heap, &[], &[IF, ELSE, AGAIN], 6, 2)?;
+    expect(heap, &[], &[END, BAD], 5, 1)
 }
 
 #[test]
 fn what_is_left_open(rt: HostRuntime) -> Result<(), Fail> {
     let heap = rt.alloc();
-    expect(&rt, heap, &[], &[IF], 6, 0)?;
-    expect(&rt, heap, &[], &[IF, ELSE], 6, 0)?;
-    expect(&rt, heap, &[], &[REPEAT, IF, END], 6, 0)?;
-    expect(&rt, heap, &[], &[REPEAT, IF, ELSE], 6, 1)
+    expect(heap, &[], &[IF], 6, 0)?;
+    expect(heap, &[], &[IF, ELSE], 6, 0)?;
+    expect(heap, &[], &[REPEAT, IF, END], 6, 0)?;
+    expect(heap, &[], &[REPEAT, IF, ELSE], 6, 1)
 }
 
 #[test]
 fn eight_openings_and_no_ninth(rt: HostRuntime) -> Result<(), Fail> {
     let heap = rt.alloc();
     expect(
-        &rt,
         heap,
         &[],
         &[
@@ -66,25 +64,10 @@ fn eight_openings_and_no_ninth(rt: HostRuntime) -> Result<(), Fail> {
         0,
         16,
     )?;
-    expect(&rt, heap, &[], &[IF, IF, IF, IF, IF, IF, IF, IF, IF], 7, 8)?;
+    expect(heap, &[], &[IF, IF, IF, IF, IF, IF, IF, IF, IF], 7, 8)?;
+    expect(heap, &[], &[IF, IF, IF, IF, IF, IF, IF, IF, REPEAT], 7, 8)?;
+    expect(heap, &[], &[IF, IF, IF, IF, IF, IF, IF, IF, ELSE], 6, 7)?;
     expect(
-        &rt,
-        heap,
-        &[],
-        &[IF, IF, IF, IF, IF, IF, IF, IF, REPEAT],
-        7,
-        8,
-    )?;
-    expect(
-        &rt,
-        heap,
-        &[],
-        &[IF, IF, IF, IF, IF, IF, IF, IF, ELSE],
-        6,
-        7,
-    )?;
-    expect(
-        &rt,
         heap,
         &[],
         &[AGAIN, IF, IF, IF, IF, IF, IF, IF, IF, IF],
