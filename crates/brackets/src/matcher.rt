@@ -11,7 +11,7 @@ ghost use Rattle.brackets.specs.Nesting.{PairedIsNested};
 use instructions::Instruction;
 use program::opening::Opening;
 use program::refusal::{Reason, Refusal};
-use stack::Stack;
+use stack::{Full, Stack};
 
 /// What is open around a place.
 #[derive(Drop)]
@@ -57,10 +57,9 @@ impl Matcher {
             (Some(Opening::Then { .. } | Opening::Otherwise { .. }), Instruction::End) =>
                 self.leave(),
             (Some(Opening::Loop { .. }), Instruction::Again) => self.leave(),
-            (_, Instruction::Else | Instruction::End | Instruction::Again) => Err(Refusal {
-                reason: Reason::BadBracket,
-                place,
-            }),
+            (_, Instruction::Else | Instruction::End | Instruction::Again) => Err(
+                Reason::BadBracket.at(place),
+            ),
         }
     }
 
@@ -70,10 +69,7 @@ impl Matcher {
         ensures nested { PairedIsNested }
     {
         match self.openings.top() {
-            Some(opening) => Err(Refusal {
-                reason: Reason::BadBracket,
-                place: opening.place(),
-            }),
+            Some(opening) => Err(Reason::BadBracket.at(opening.place())),
             None => Ok(()),
         }
     }
@@ -82,13 +78,9 @@ impl Matcher {
         ensures answer { refused_by result ≡ unless (nat_lt (length (held self.old.openings)) 8) TooDeep place }
         ensures after { held self.new.openings ≡ (if is_ok result then opening ∷ held self.old.openings else held self.old.openings) }
     {
-        if self.openings.push(opening) {
-            Ok(())
-        } else {
-            Err(Refusal {
-                reason: Reason::TooDeep,
-                place,
-            })
+        match self.openings.push(opening) {
+            Ok(()) => Ok(()),
+            Err(Full) => Err(Reason::TooDeep.at(place)),
         }
     }
 

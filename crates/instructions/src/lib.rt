@@ -74,8 +74,8 @@ pub enum Op {
     },
 }
 
-/// An instruction: an op, or a bracket.
-#[derive(Clone, Copy, PartialEq, Eq, Debug)]
+/// An instruction: an op, or a bracket. An again is what stands where nothing is written yet.
+#[derive(Clone, Copy, PartialEq, Eq, Debug, Default)]
 pub enum Instruction {
     Do { op: Op },
     If { condition: Register },
@@ -83,5 +83,6 @@ pub enum Instruction {
     End,
     /// As many rounds as the register says, and at most `most`.
     Repeat { count: Register, most: u32 },
+    #[default]
     Again,
 }

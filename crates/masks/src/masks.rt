@@ -100,7 +100,7 @@ impl Masks {
         requires { length (held self.old.openings) < 8 }
         ensures { held self.new.openings ≡ opening ∷ held self.old.openings }
     {
-        self.openings.push(opening);
+        let _ = self.openings.push(opening);
         self.count += opening.label as usize;
     }
 

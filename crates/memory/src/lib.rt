@@ -11,6 +11,7 @@ ghost use Rattle.memory.specs.Laws.{Lawful};
 use program::refusal::Refusal;
 
 pub mod denial;
+pub mod window;
 
 /// What an observer sees of an access: a row of these.
 pub type Mark = u32;

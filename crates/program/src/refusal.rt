@@ -1,6 +1,6 @@
 // What is refused, and where.
 ghost use Rattle.std.specs.Prelude.{◌≡◌};
-ghost use Rattle.program.specs.Refusals.{number_of};
+ghost use Rattle.program.specs.Refusals.{number_of, refusal};
 
 /// Why something is refused; the discriminant is the number that is reported.
 #[derive(Clone, Copy, PartialEq, Eq, Debug)]
@@ -45,11 +45,32 @@ pub enum Reason {
     NoRoomForMarks = 31,
 }
 
+impl Reason {
+    /// The refusal at a place.
+    pub fn at(self, place: usize) -> Refusal
+        ensures { result ≡ refusal self place }
+    {
+        Refusal {
+            reason: self,
+            place,
+        }
+    }
+}
+
 /// A refusal: a reason, and a place that is 0 where the reason has none.
 #[derive(Clone, Copy, PartialEq, Eq, Debug)]
 pub struct Refusal {
     pub reason: Reason,
     pub place: usize,
+}
+
+/// A reason that has no place.
+impl From<Reason> for Refusal {
+    ghost from_gives = { λ reason r. r ≡ refusal reason 0 };
+
+    fn from(reason: Reason) -> Refusal {
+        reason.at(0)
+    }
 }
 
 impl Refusal {

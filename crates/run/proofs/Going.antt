@@ -31,7 +31,7 @@ use Rattle.execution.proofs.Onward.{steps_more, onward, finished, weighs, comes,
 use Rattle.counting.specs.Counting.{mark_price, most_steps, most_marks}
 use Rattle.counting.proofs.Sums.{sums_is}
 use Rattle.repeats.specs.declared.Move.{Move}
-use Rattle.windows.specs.declared.Window.{Window}
+use Rattle.memory.specs.declared.window.Window.{Window}
 use Rattle.windows.specs.Windows.{no_window, Laid}
 use Rattle.windows.proofs.Laying.{within_all}
 use Rattle.stepping.specs.Turns.{Allowed, ReadyOp, Ready}

@@ -26,7 +26,7 @@ use Rattle.jumps.specs.Jumps.{Resolved}
 use Rattle.counting.specs.Counting.{mark_price}
 use Rattle.repeats.specs.declared.Move.{Move}
 use Rattle.repeats.specs.Moves.{innermost, Goes}
-use Rattle.windows.specs.declared.Window.{Window}
+use Rattle.memory.specs.declared.window.Window.{Window}
 use Rattle.windows.specs.Windows.{window_of, Laid}
 use Rattle.stepping.specs.Turns.{Loaded, Stored, Done, Turned, Allowed, ReadyOp, Ready}
 use Rattle.run.specs.Run.{visit_at, visits_of, marks_of}

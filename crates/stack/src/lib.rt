@@ -1,12 +1,18 @@
 // A stack of at most eight: what is open around a place.
 #![tactic(auto)]
 
-ghost use Rattle.std.specs.Prelude.{◌≡◌, ℕ, ◌≤◌, [], ◌∷◌, length, if◌then◌else◌, nat_lt};
+ghost use Rattle.std.specs.Prelude.{◌≡◌, ℕ, ◌≤◌, [], ◌∷◌, length, is_ok, if◌then◌else◌, nat_lt};
 ghost use Rattle.stack.specs.Items.{items, top, below, swapped};
 
 /// The most openings that are open together.
 pub const DEEPEST: usize = 8;
 
+/// There is no room for one more.
+#[derive(Clone, Copy, PartialEq, Eq, Debug)]
+pub struct Full;
+
+/// Its cells lie in the value itself, since nothing here allocates. `ArrayVec` of the library would
+/// want a default of what it holds, and an opening has none.
 #[derive(Drop)]
 pub struct Stack<T> {
     cells: [T; 8],
@@ -35,17 +41,17 @@ impl<T: Copy> Stack<T> {
         Some(self.cells[self.depth - 1])
     }
 
-    /// Puts one on top; false where there is no room, and then nothing changes.
-    pub fn push(&mut self, item: T) -> bool
-        ensures room { result ≡ nat_lt (length (items self.old.cells self.old.depth)) 8 }
-        ensures after { items self.new.cells self.new.depth ≡ (if result then item ∷ items self.old.cells self.old.depth else items self.old.cells self.old.depth) }
+    /// Puts one on top; where there is no room nothing changes.
+    pub fn push(&mut self, item: T) -> Result<(), Full>
+        ensures room { is_ok result ≡ nat_lt (length (items self.old.cells self.old.depth)) 8 }
+        ensures after { items self.new.cells self.new.depth ≡ (if is_ok result then item ∷ items self.old.cells self.old.depth else items self.old.cells self.old.depth) }
     {
         if self.depth >= DEEPEST {
-            return false;
+            return Err(Full);
         }
         self.cells[self.depth] = item;
         self.depth += 1;
-        true
+        Ok(())
     }
 
     /// Puts another one in the place of the top.

@@ -15,7 +15,7 @@ use Rattle.machine.specs.Words.{value_of}
 use Rattle.machine.specs.Machine.{open_at, lowered}
 use Rattle.repeats.specs.declared.Move.{Move}
 use Rattle.repeats.specs.Moves.{innermost, Goes}
-use Rattle.windows.specs.declared.Window.{Window}
+use Rattle.memory.specs.declared.window.Window.{Window}
 use Rattle.windows.specs.Windows.{no_window}
 
 -- a load into register x of offset i of a window: the registers r and the memory d, the move m, the

@@ -5,7 +5,7 @@ ghost use Rattle.memory.specs.Description.{marked, free};
 ghost use Rattle.memory.specs.Laws.{Within};
 
 use memory::Memory;
-use windows::Window;
+use memory::window::Window;
 
 /// The word at an offset of a window.
 pub fn fetch<M: Memory>(memory: &mut M, window: Window, off: usize) -> u32

@@ -10,8 +10,9 @@ use crate::access::{fetch, keep};
 use instructions::{Instruction, Op, Register};
 use machine::words;
 use memory::Memory;
+use memory::window::Window;
 use repeats::{Move, Repeats};
-use windows::{Window, of_table};
+use windows::of_table;
 
 fn picked(flag: u32, new: u32, old: u32) -> u32
     ensures { result ≡ (if nat_eq flag 0 then old else new) }

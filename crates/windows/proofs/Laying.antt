@@ -5,7 +5,7 @@ use Rattle.std.proofs.lemmas.List.Sums.{sum_by_more, sum_by-take-le}
 use Rattle.program.specs.declared.header.Table.{Table}
 use Rattle.program.specs.Headers.{no_table, cells_of, first_cell}
 use Rattle.machine.specs.Machine.{length_of}
-use Rattle.windows.specs.declared.Window.{Window}
+use Rattle.memory.specs.declared.window.Window.{Window}
 use Rattle.windows.specs.Windows.{no_window, window_of, Laid}
 
 -- the next table begins where this one ends

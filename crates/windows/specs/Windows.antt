@@ -3,7 +3,7 @@ use Rattle.std.specs.Prelude.{◌≡◌, ℕ, ◌<◌, List, slice_index_or}
 use Rattle.program.specs.declared.header.Table.{Table}
 use Rattle.program.specs.Headers.{first_cell}
 use Rattle.machine.specs.Machine.{length_of}
-use Rattle.windows.specs.declared.Window.{Window}
+use Rattle.memory.specs.declared.window.Window.{Window}
 
 -- no table
 abbrev pub no_window : Window

@@ -5,14 +5,8 @@ ghost use Rattle.std.specs.Prelude.{◌≡◌, ◌<◌, length, slice_index_or};
 ghost use Rattle.program.specs.Headers.{cells_of};
 ghost use Rattle.windows.specs.Windows.{no_window, Laid};
 
+use memory::window::Window;
 use program::program::Program;
-
-/// A table as a memory is asked for it: its first cell, and how many there are.
-#[derive(Clone, Copy)]
-pub struct Window {
-    pub first: usize,
-    pub length: usize,
-}
 
 /// Each table's window: the tables lie one after another from cell 0.
 pub fn lay(program: &Program) -> [Window; 8]

@@ -2,7 +2,7 @@ use Rattle.std.proofs.Common.{◌≡◌, ℕ, ◌+◌, length, sym, ap, ◌∙�
 use Rattle.std.proofs.lemmas.List.{length-set}
 use Rattle.program.specs.Headers.{cells_of}
 use Rattle.machine.specs.Machine.{length_of}
-use Rattle.windows.specs.declared.Window.{Window}
+use Rattle.memory.specs.declared.window.Window.{Window}
 use Rattle.windows.specs.Windows.{window_of}
 use Rattle.windows.proofs.Laying.{first_more, within_all, laid_more}
 use Rattle.windows.proofs.lay.Goals as goal
