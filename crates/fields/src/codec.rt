@@ -4,7 +4,7 @@ ghost use Rattle.instructions.specs.declared.Value.TheVariants.{Binary, Shift};
 ghost use Rattle.instructions.specs.declared.Op.TheVariants.{Set, Pick, Load, Store};
 ghost use Rattle.instructions.specs.declared.Instruction.TheVariants.{Do};
 ghost use Rattle.fields.specs.Fields.{fields as fields_of};
-ghost use Rattle.fields.specs.Codec.{decode, encode, encode_op, encode_set, binary_code, shift_code};
+ghost use Rattle.fields.specs.Codec.{decode, encode, encode_op, encode_set};
 
 use crate::fields::Fields;
 use instructions::{BinaryOp, Instruction, Op, Register, ShiftOp, Value};
@@ -58,32 +58,34 @@ fn store(from: Register, index: Register, table: u8) -> Instruction
 }
 
 /// The instruction of these fields.
-pub fn instruction(fields: Fields) -> Instruction
-    ensures { result ≡ decode fields }
-{
-    let Fields { op, d, a, b, k } = fields;
-    match op {
-        0 => set(d, Value::Const { word: k }),
-        1 => set(d, Value::Move { from: a }),
-        2 => binary(BinaryOp::Add, d, a, b),
-        3 => binary(BinaryOp::Sub, d, a, b),
-        4 => binary(BinaryOp::Mul, d, a, b),
-        5 => binary(BinaryOp::And, d, a, b),
-        6 => binary(BinaryOp::Or, d, a, b),
-        7 => binary(BinaryOp::Xor, d, a, b),
-        8 => shift(ShiftOp::Left, d, a, k),
-        9 => shift(ShiftOp::Right, d, a, k),
-        10 => shift(ShiftOp::Rotate, d, a, k),
-        11 => binary(BinaryOp::Below, d, a, b),
-        12 => binary(BinaryOp::Same, d, a, b),
-        13 => pick(d, a, b),
-        14 => load(d, a, b),
-        15 => store(d, a, b),
-        16 => Instruction::If { condition: a },
-        17 => Instruction::Else,
-        18 => Instruction::End,
-        19 => Instruction::Repeat { count: a, most: k },
-        _ => Instruction::Again,
+impl From<Fields> for Instruction {
+    ghost from_gives = { λ fields i. i ≡ decode fields };
+
+    fn from(fields: Fields) -> Instruction {
+        let Fields { op, d, a, b, k } = fields;
+        match op {
+            0 => set(d, Value::Const { word: k }),
+            1 => set(d, Value::Move { from: a }),
+            2 => binary(BinaryOp::Add, d, a, b),
+            3 => binary(BinaryOp::Sub, d, a, b),
+            4 => binary(BinaryOp::Mul, d, a, b),
+            5 => binary(BinaryOp::And, d, a, b),
+            6 => binary(BinaryOp::Or, d, a, b),
+            7 => binary(BinaryOp::Xor, d, a, b),
+            8 => shift(ShiftOp::Left, d, a, k),
+            9 => shift(ShiftOp::Right, d, a, k),
+            10 => shift(ShiftOp::Rotate, d, a, k),
+            11 => binary(BinaryOp::Below, d, a, b),
+            12 => binary(BinaryOp::Same, d, a, b),
+            13 => pick(d, a, b),
+            14 => load(d, a, b),
+            15 => store(d, a, b),
+            16 => Instruction::If { condition: a },
+            17 => Instruction::Else,
+            18 => Instruction::End,
+            19 => Instruction::Repeat { count: a, most: k },
+            _ => Instruction::Again,
+        }
     }
 }
 
@@ -94,16 +96,18 @@ fn five(op: u8, d: u8, a: u8, b: u8, k: u32) -> Fields
 }
 
 /// The fields of an instruction.
-pub fn fields_of(instruction: Instruction) -> Fields
-    ensures { result ≡ encode instruction }
-{
-    match instruction {
-        Instruction::Do { op } => op_fields(op),
-        Instruction::If { condition } => five(16, 0, condition, 0, 0),
-        Instruction::Else => five(17, 0, 0, 0, 0),
-        Instruction::End => five(18, 0, 0, 0, 0),
-        Instruction::Repeat { count, most } => five(19, 0, count, 0, most),
-        Instruction::Again => five(20, 0, 0, 0, 0),
+impl From<Instruction> for Fields {
+    ghost from_gives = { λ i fields. fields ≡ encode i };
+
+    fn from(instruction: Instruction) -> Fields {
+        match instruction {
+            Instruction::Do { op } => op_fields(op),
+            Instruction::If { condition } => five(16, 0, condition, 0, 0),
+            Instruction::Else => five(17, 0, 0, 0, 0),
+            Instruction::End => five(18, 0, 0, 0, 0),
+            Instruction::Repeat { count, most } => five(19, 0, count, 0, most),
+            Instruction::Again => five(20, 0, 0, 0, 0),
+        }
     }
 }
 
@@ -132,32 +136,7 @@ fn set_fields(d: Register, value: Value) -> Fields
     match value {
         Value::Const { word } => five(0, d, 0, 0, word),
         Value::Move { from } => five(1, d, from, 0, 0),
-        Value::Binary { op, left, right } => five(binary_code(op), d, left, right, 0),
-        Value::Shift { op, from, by } => five(shift_code(op), d, from, 0, by),
-    }
-}
-
-fn binary_code(op: BinaryOp) -> u8
-    ensures { result ≡ binary_code op }
-{
-    match op {
-        BinaryOp::Add => 2,
-        BinaryOp::Sub => 3,
-        BinaryOp::Mul => 4,
-        BinaryOp::And => 5,
-        BinaryOp::Or => 6,
-        BinaryOp::Xor => 7,
-        BinaryOp::Below => 11,
-        BinaryOp::Same => 12,
-    }
-}
-
-fn shift_code(op: ShiftOp) -> u8
-    ensures { result ≡ shift_code op }
-{
-    match op {
-        ShiftOp::Left => 8,
-        ShiftOp::Right => 9,
-        ShiftOp::Rotate => 10,
+        Value::Binary { op, left, right } => five(op as u8, d, left, right, 0),
+        Value::Shift { op, from, by } => five(op as u8, d, from, 0, by),
     }
 }

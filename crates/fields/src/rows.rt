@@ -102,11 +102,11 @@ impl Bound {
     {
         match self {
             Bound::Unused => value == 0,
-            Bound::Register => value < limits.registers as u32,
-            Bound::Table => value < limits.tables as u32,
+            Bound::Register => value < u32::from(limits.registers),
+            Bound::Table => value < u32::from(limits.tables),
             Bound::Word => true,
             Bound::Shift => value < 32,
-            Bound::Rounds => 1 <= value && value <= 1024,
+            Bound::Rounds => (1..=1024).contains(&value),
         }
     }
 }
@@ -115,9 +115,5 @@ impl Bound {
 pub fn row_of(op: u8) -> Option<Row>
     ensures { MatchOption result (21 ≤ op) (λ row. (op < 21) × (row ≡ row_of op)) }
 {
-    if op < 21 {
-        Some(ROWS[op as usize])
-    } else {
-        None
-    }
+    ROWS.get(usize::from(op)).copied()
 }

@@ -4,25 +4,26 @@
 /// A register's number: 0 to 15 in a source, 0 to 31 in a converted program.
 pub type Register = u8;
 
-/// What two registers come to: a number modulo 2^32, or 1 and 0 for a test.
+/// What two registers come to: a number modulo 2^32, or 1 and 0 for a test. The discriminant is the
+/// op's number in an image.
 #[derive(Clone, Copy, PartialEq, Eq, Debug)]
 pub enum BinaryOp {
-    Add,
-    Sub,
-    Mul,
-    And,
-    Or,
-    Xor,
-    Below,
-    Same,
+    Add = 2,
+    Sub = 3,
+    Mul = 4,
+    And = 5,
+    Or = 6,
+    Xor = 7,
+    Below = 11,
+    Same = 12,
 }
 
-/// How a register is shifted.
+/// How a register is shifted. The discriminant is the op's number in an image.
 #[derive(Clone, Copy, PartialEq, Eq, Debug)]
 pub enum ShiftOp {
-    Left,
-    Right,
-    Rotate,
+    Left = 8,
+    Right = 9,
+    Rotate = 10,
 }
 
 /// A word computed from registers alone.

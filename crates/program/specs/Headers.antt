@@ -1,8 +1,26 @@
 -- What a header says of registers, instructions and tables.
-use Rattle.std.specs.Prelude.{ℕ, Bool, true, false, not, ◌&&◌, List, take, sum_by, ◌==◌, nat_le}
+use Rattle.std.specs.Prelude.{◌≡◌, ℕ, ◌<◌, ◌≤◌, Bool, true, false, cond, not, ◌&&◌, List, codes, take, sum_by, ◌==◌, nat_le, Result, MatchResult}
 use Rattle.program.specs.declared.header.Kind.{Kind}
 use Rattle.program.specs.declared.header.Kind.TheVariants.{Source, Converted}
+use Rattle.program.specs.declared.header.UnknownKind.{UnknownKind}
 use Rattle.program.specs.declared.header.Table.{Table}
+
+-- the kind of a number in an image
+abbrev pub kind_of : ℕ → Kind
+kind_of code = cond (code == 0) Source Converted
+
+-- the number of a kind in an image
+abbrev pub kind_code : Kind → ℕ
+kind_code Source = 0
+kind_code Converted = 1
+
+-- the kind of a number up to 1, and the number itself where it is greater
+abbrev pub NamesKind : ℕ → Result Kind UnknownKind → Type 0
+NamesKind code r = MatchResult r (λ kind. (kind ≡ kind_of code) × (code ≤ 1)) (λ e. (e.0 ≡ code) × (1 < code))
+
+abbrev pub kind_name : Kind → List ℕ
+kind_name Source = codes "source"
+kind_name Converted = codes "converted"
 
 -- how many registers there are
 abbrev pub registers_of : Kind → ℕ

@@ -6,3 +6,4 @@ pub mod Pairing
 pub mod Sound
 pub mod Blocks
 pub mod Firsts
+pub mod Wording

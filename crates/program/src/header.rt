@@ -1,12 +1,44 @@
 // What stands in front of the instructions.
-ghost use Rattle.std.specs.Prelude.{◌≡◌};
-ghost use Rattle.program.specs.Headers.{registers_of, longest};
+ghost use Rattle.std.specs.Prelude.{◌≡◌, ◌≤◌, length, Some};
+ghost use Rattle.program.specs.Headers.{registers_of, longest, kind_name, NamesKind, cells_of, first_cell};
 
-/// A source as an engineer writes it, or straight code that a converter made.
+use std::fmt;
+
+/// A source as an engineer writes it, or straight code that a converter made. The discriminant is
+/// the kind's number in an image.
 #[derive(Clone, Copy, PartialEq, Eq, Debug)]
 pub enum Kind {
-    Source,
-    Converted,
+    Source = 0,
+    Converted = 1,
+}
+
+/// A number that no kind of program has.
+#[derive(Clone, Copy, PartialEq, Eq, Debug)]
+pub struct UnknownKind(pub u8);
+
+impl TryFrom<u8> for Kind {
+    type Error = UnknownKind;
+
+    ghost try_from_gives = { NamesKind };
+
+    fn try_from(number: u8) -> Result<Kind, UnknownKind> {
+        match number {
+            0 => Ok(Kind::Source),
+            1 => Ok(Kind::Converted),
+            _ => Err(UnknownKind(number)),
+        }
+    }
+}
+
+impl fmt::Display for Kind {
+    ghost output = { λ kind. Some (kind_name kind) };
+
+    fn fmt<W: fmt::Write>(&self, f: &mut fmt::Formatter<W>) -> fmt::Result {
+        f.write_str(match self {
+            Kind::Source => "source",
+            Kind::Converted => "converted",
+        })
+    }
 }
 
 impl Kind {
@@ -48,4 +80,20 @@ pub struct Header {
     pub count: u16,
     /// The secret entry registers, bit i for register i.
     pub secret_entry: u16,
+}
+
+fn cells(tables: &[Table]) -> u32
+    requires { length tables.now ≤ 8 }
+    ensures { result ≡ cells_of tables.now }
+{
+    tables.iter().map(|table| u32::from(table.length)).sum()
+}
+
+impl Header {
+    /// The first cell of a table; past the last table, the number of cells in all.
+    pub fn first_cell(&self, table: usize) -> u32
+        ensures { result ≡ first_cell self.now.tables table }
+    {
+        cells(&self.tables[..table.min(8)])
+    }
 }

@@ -7,3 +7,4 @@ pub mod header;
 pub mod opening;
 pub mod program;
 pub mod refusal;
+pub mod wording;
