@@ -1,7 +1,7 @@
 -- The pass that counts.
-use Rattle.std.proofs.Common.{◌≡◌, ℕ, zero, suc, ◌+◌, ◌<◌, ◌≤◌, cond, List, [], ◌∷◌, ◌++◌, map, length, get_or, take, drop, set, replicate, None, sym, refl, ap, ◌∙◌, arith}
+use Rattle.std.proofs.Common.{◌≡◌, ℕ, zero, suc, ◌+◌, ◌<◌, ◌≤◌, cond, List, [], ◌∷◌, map, length, get_or, drop, replicate, None, sym, refl, ap, ◌∙◌, arith}
 use mathlib.Core.Path.{fun_ext}
-use Rattle.std.proofs.lemmas.List.{drop_all, take_more_set, map_more}
+use Rattle.std.proofs.lemmas.List.{drop_all}
 use Rattle.std.proofs.lemmas.Bool.{lt-ltb}
 use Rattle.instructions.specs.declared.Op.{Op}
 use Rattle.instructions.specs.declared.Op.TheVariants.{Set, Pick, Load, Store}
@@ -9,12 +9,17 @@ use Rattle.instructions.specs.declared.Instruction.{Instruction}
 use Rattle.instructions.specs.declared.Instruction.TheVariants.{Do, If, Else, End, Repeat, Again}
 use Rattle.program.specs.declared.opening.Opening.{Opening}
 use Rattle.program.specs.declared.opening.Opening.TheVariants.{Then, Loop}
+use Rattle.program.specs.declared.header.Table.{Table}
 use Rattle.program.specs.Pairing.{pairing}
+use Rattle.memory.specs.declared.Access.{Access}
+use Rattle.memory.specs.declared.Access.TheVariants.{Read, Write}
+use Rattle.machine.specs.States.{held}
 use Rattle.machine.specs.Fits.{FitOp, Fit}
 use Rattle.machine.specs.Most.{Price, each_step, hold, price}
 use Rattle.machine.proofs.Around.{no_some, opens, closers, closers-is, around}
 use Rattle.counting.specs.declared.part.Part.{Part}
-use Rattle.counting.specs.Counting.{priced, part, innermost, arms, turns, entered, sums, Added}
+use Rattle.counting.specs.declared.price.TablePrice.{TablePrice}
+use Rattle.counting.specs.Counting.{costs, no_price, priced, mark_price, part, innermost, arms, turns, entered, sums, Added}
 
 op_eight : (t : ℕ) (o : Op) → t ≤ 8 → FitOp 32 t o → FitOp 32 8 o
 op_eight t (Set d v) h f = f
@@ -112,16 +117,30 @@ module _ (w : Price) where
     pub count_all : {p : ℕ} {fs : List Part} {x : ℕ} → length code ≤ p → Counted p fs x → x ≡ sums w [] 0 code
     count_all {p} {fs} {x} h s = sym (ap (sums w fs x) (drop_all p code h)) ∙ s.goes
 
-zeros : (n x : ℕ) → ◌≡◌ {A = ℕ} (get_or (replicate n 0) x 0) 0
-zeros zero x = refl
-zeros (suc n) zero = refl
-zeros (suc n) (suc x) = zeros n x
+none_counted : (n x : ℕ) → ◌≡◌ {A = TablePrice} (get_or (replicate n no_price) x no_price) no_price
+none_counted zero x = refl
+none_counted (suc n) zero = refl
+none_counted (suc n) (suc x) = none_counted n x
 
 -- where no access costs anything, steps alone are counted
-pub steps_alone : priced 1 (replicate 8 0) (replicate 8 0) ≡ each_step
-steps_alone = let F : (ℕ → ℕ) → Price = λ f. record { step = 1; read = f; write = f } in ap F (fun_ext (zeros 8))
+pub steps_alone : priced 1 (replicate 8 no_price) ≡ each_step
+steps_alone = let F : (ℕ → TablePrice) → Price = λ f. record { step = 1; read = λ t. (f t).read; write = λ t. (f t).write } in ap F (fun_ext (none_counted 8))
 
--- one table's cost more
-pub costs_more : {X : Type 0} (f : X → ℕ) (xs : List ℕ) (ts : List X) (i v : ℕ) (d : X) → i < length xs → i < length ts → take i xs ≡ map f (take i ts) → v ≡ f (get_or ts i d) → take (i + 1) (set xs i v) ≡ map f (take (i + 1) ts)
-costs_more f xs ts i v d h k e w =
-    take_more_set xs i v h ∙ (ap (λ l. l ++ v ∷ []) e ∙ (ap (λ x. map f (take i ts) ++ x ∷ []) w ∙ sym (map_more f ts i d k)))
+module _ (cost : Access → ℕ → ℕ) where
+  read_costs : (tables : List Table) (t : ℕ) → (get_or (map (costs cost) tables) t no_price).read ≡ get_or (map (λ x. cost Read x.length) tables) t 0
+  read_costs [] t = refl
+  read_costs (x ∷ tables) zero = refl
+  read_costs (x ∷ tables) (suc t) = read_costs tables t
+
+  write_costs : (tables : List Table) (t : ℕ) → (get_or (map (costs cost) tables) t no_price).write ≡ get_or (map (λ x. cost Write x.length) tables) t 0
+  write_costs [] t = refl
+  write_costs (x ∷ tables) zero = refl
+  write_costs (x ∷ tables) (suc t) = write_costs tables t
+
+  -- what accesses cost, as the code holds it
+  pub marks_alone : (tables : List Table) → priced 0 (map (costs cost) tables) ≡ mark_price cost tables
+  marks_alone tables =
+      let F : (ℕ → ℕ) → (ℕ → ℕ) → Price = λ f g. record { step = 0; read = f; write = g } in
+      let r = fun_ext (read_costs tables) in
+      let w = fun_ext (write_costs tables) in
+      ap (λ f. F f (λ t. (get_or (map (costs cost) tables) t no_price).write)) r ∙ ap (F (held (map (λ (x : Table). cost Read x.length) tables))) w

@@ -12,6 +12,7 @@ use Rattle.machine.specs.States.{held}
 use Rattle.machine.specs.Fits.{Fit}
 use Rattle.machine.specs.Most.{Price, each_step, hold, price, most_of}
 use Rattle.counting.specs.declared.part.Part.{Part}
+use Rattle.counting.specs.declared.price.TablePrice.{TablePrice}
 
 -- the sum over the nested blocks that these instructions are, held at 1,000,001
 abbrev pub Sum : Price → List Instruction → ℕ → Type 0
@@ -67,9 +68,21 @@ mark_price cost tables = record {
 abbrev pub most_marks : (Access → ℕ → ℕ) → List Table → List Instruction → ℕ
 most_marks cost tables code = sums (mark_price cost tables) [] 0 code
 
+-- what a read and a write of a table cost
+abbrev pub costs : (Access → ℕ → ℕ) → Table → TablePrice
+costs cost t = record { read = cost Read t.length; write = cost Write t.length }
+
+-- where there is no table nothing is counted
+abbrev pub no_price : TablePrice
+no_price = record { read = 0; write = 0 }
+
 -- prices as the code holds them
-abbrev pub priced : ℕ → List ℕ → List ℕ → Price
-priced step reads writes = record { step = step; read = held reads; write = held writes }
+abbrev pub priced : ℕ → List TablePrice → Price
+priced step tables = record {
+  step = step;
+  read = λ t. (slice_index_or tables t no_price).read;
+  write = λ t. (slice_index_or tables t no_price).write;
+}
 
 -- one bracket more, where there is room
 abbrev pub entered : Part → List Part → List Part

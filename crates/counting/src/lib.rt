@@ -5,10 +5,10 @@ ghost use Rattle.std.specs.Prelude.{◌≡◌, ◌≤◌, map, length};
 ghost use Rattle.machine.specs.Most.{each_step};
 ghost use Rattle.machine.specs.Programs.{code_of};
 ghost use Rattle.execution.specs.Runs.{OverBy, CountsBy};
-ghost use Rattle.counting.specs.Counting.{Sum, most_steps, mark_price, most_marks, Countable};
+ghost use Rattle.counting.specs.Counting.{Sum, most_steps, mark_price, most_marks, costs, Countable};
 
 use crate::pass::most;
-use crate::price::Price;
+use crate::price::{Price, TablePrice};
 use instructions::Instruction;
 use memory::{Access, Memory};
 use program::program::Program;
@@ -26,8 +26,7 @@ pub fn most_steps_of(code: &[Instruction]) -> usize
         code,
         &Price {
             step: 1,
-            read: [0; 8],
-            write: [0; 8],
+            tables: [TablePrice { read: 0, write: 0 }; 8],
         },
     )
 }
@@ -42,17 +41,18 @@ pub fn most_steps(program: &Program) -> usize
     most_steps_of(program.code())
 }
 
-// What an access of a kind to each table costs.
-fn costs<M: Memory>(memory: &M, access: Access, program: &Program) -> [usize; 8]
-    ensures each { result ≡ map (λ t. (M.model memory.now).rules.cost access t.length) program.now.header.tables }
+// What a read and a write of each table cost.
+fn costs<M: Memory>(memory: &M, program: &Program) -> [TablePrice; 8]
+    ensures each { result ≡ map (costs (M.model memory.now).rules.cost) program.now.header.tables }
     ensures wide { length result ≡ 8 }
 {
-    let tables = program.header().tables;
-    let mut all = [0; 8];
-    for t in 0..8usize {
-        all[t] = memory.cost(access, tables[t].length as usize);
-    }
-    all
+    program.header().tables.map(|table| {
+        let len = table.length as usize;
+        TablePrice {
+            read: memory.cost(Access::Read, len),
+            write: memory.cost(Access::Write, len),
+        }
+    })
 }
 
 /// The most marks that a run leaves on this memory, held at 1,000,001: the sum likewise, a load
@@ -67,8 +67,7 @@ pub fn most_marks<M: Memory>(program: &Program, memory: &M) -> usize
         program.code(),
         &Price {
             step: 0,
-            read: costs(memory, Access::Read, program),
-            write: costs(memory, Access::Write, program),
+            tables: costs(memory, program),
         },
     )
 }

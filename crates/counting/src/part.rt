@@ -2,7 +2,7 @@
 
 /// What was counted before the bracket, what the arm before an else counts with the step of that
 /// else, and how often a repeat goes round.
-#[derive(Clone, Copy)]
+#[derive(Clone, Copy, Default)]
 pub struct Part {
     pub before: usize,
     pub least: usize,

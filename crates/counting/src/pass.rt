@@ -3,7 +3,7 @@ ghost use Rattle.std.specs.Prelude.{◌≡◌, ◌+◌, ◌≤◌, []};
 ghost use Rattle.stack.specs.Held.{held};
 ghost use Rattle.machine.specs.Fits.{FitOp, Fit};
 ghost use Rattle.machine.specs.Most.{hold, price};
-ghost use Rattle.counting.specs.Counting.{part as bracket, innermost, entered, priced, Added, sums, Countable};
+ghost use Rattle.counting.specs.Counting.{part as bracket, entered, priced, Added, sums, Countable};
 
 use crate::part::Part;
 use crate::price::Price;
@@ -12,6 +12,14 @@ use stack::Stack;
 
 /// What is larger is held at this.
 const HELD: usize = 1_000_001;
+
+/// The open brackets, and what is counted so far inside the innermost.
+#[derive(Drop)]
+struct Pass {
+    parts: Stack<Part>,
+    sum: usize,
+    ghost small: { sum ≤ 1000001 },
+}
 
 // A sum of three, held.
 fn total(x: usize, y: usize, z: usize) -> usize
@@ -23,70 +31,59 @@ fn total(x: usize, y: usize, z: usize) -> usize
 
 fn with_op(sum: usize, op: Op, prices: &Price) -> usize
     requires { FitOp 32 8 op }
-    ensures { result ≡ hold (sum + price (priced prices.now.step prices.now.read prices.now.write) op) }
+    ensures value { result ≡ hold (sum + price (priced prices.now.step prices.now.tables) op) }
+    ensures small { result ≤ 1000001 }
 {
     let access = match op {
-        Op::Set { .. } => 0,
-        Op::Pick { .. } => 0,
-        Op::Load { table, .. } => prices.read[table as usize],
-        Op::Store { table, .. } => prices.write[table as usize],
+        Op::Set { .. } | Op::Pick { .. } => 0,
+        Op::Load { table, .. } => prices.tables[table as usize].read,
+        Op::Store { table, .. } => prices.tables[table as usize].write,
     };
     total(sum, prices.step, access)
 }
 
-fn innermost(parts: &Stack<Part>) -> Part
-    ensures { result ≡ innermost (held parts.now) }
-{
-    match parts.top() {
-        Some(part) => part,
-        None => Part {
-            before: 0,
+impl Pass {
+    // A bracket opens, and goes round so often.
+    fn enter(&mut self, rounds: usize)
+        ensures inside { held self.new.parts ≡ entered (bracket self.old.sum 0 rounds) (held self.old.parts) }
+        ensures none { self.new.sum ≡ 0 }
+    {
+        let _ = self.parts.push(Part {
+            before: self.sum,
             least: 0,
-            rounds: 0,
-        },
+            rounds,
+        });
+        self.sum = 0;
     }
-}
 
-fn enter(parts: &mut Stack<Part>, before: usize, rounds: usize) -> usize
-    ensures inside { held parts.new ≡ entered (bracket before 0 rounds) (held parts.old) }
-    ensures none { result ≡ 0 }
-{
-    let _ = parts.push(Part {
-        before,
-        least: 0,
-        rounds,
-    });
-    0
-}
-
-// What is counted after the instruction, inside the brackets that are then open.
-fn add(instruction: Instruction, prices: &Price, parts: &mut Stack<Part>, sum: usize) -> usize
-    requires fits { Fit 32 8 instruction }
-    requires small { sum ≤ 1000001 }
-    ensures pass { Added (priced prices.now.step prices.now.read prices.now.write) instruction (held parts.old) sum (held parts.new) result }
-    ensures small { result ≤ 1000001 }
-{
-    let part = innermost(parts);
-    let step = prices.step;
-    match instruction {
-        Instruction::Do { op } => with_op(sum, op, prices),
-        Instruction::If { .. } => enter(parts, sum, 0),
-        Instruction::Else => {
-            parts.swap(Part {
-                before: part.before,
-                least: sum + step,
-                rounds: 0,
-            });
-            0
-        }
-        Instruction::End => {
-            parts.pop();
-            total(part.before, 2 * step, part.least.max(sum))
-        }
-        Instruction::Repeat { most, .. } => enter(parts, sum, most as usize),
-        Instruction::Again => {
-            parts.pop();
-            total(part.before, step, part.rounds.saturating_mul(sum + step))
+    // Passes the instruction.
+    fn add(&mut self, instruction: Instruction, prices: &Price)
+        requires { Fit 32 8 instruction }
+        ensures { Added (priced prices.now.step prices.now.tables) instruction (held self.old.parts) self.old.sum (held self.new.parts) self.new.sum }
+    {
+        let part = self.parts.top().unwrap_or_default();
+        let step = prices.step;
+        match instruction {
+            Instruction::Do { op } => self.sum = with_op(self.sum, op, prices),
+            Instruction::If { .. } => self.enter(0),
+            Instruction::Else => {
+                self.parts.swap(Part {
+                    before: part.before,
+                    least: self.sum + step,
+                    rounds: 0,
+                });
+                self.sum = 0;
+            }
+            Instruction::End => {
+                self.parts.pop();
+                self.sum = total(part.before, 2 * step, part.least.max(self.sum));
+            }
+            Instruction::Repeat { most, .. } => self.enter(most as usize),
+            Instruction::Again => {
+                self.parts.pop();
+                let rounds = part.rounds.saturating_mul(self.sum + step);
+                self.sum = total(part.before, step, rounds);
+            }
         }
     }
 }
@@ -94,16 +91,14 @@ fn add(instruction: Instruction, prices: &Price, parts: &mut Stack<Part>, sum: u
 /// The most that a row of instructions counts, by one pass over it.
 pub fn most(code: &[Instruction], prices: &Price) -> usize
     requires { Countable code.now }
-    ensures { result ≡ sums (priced prices.now.step prices.now.read prices.now.write) [] 0 code.now }
+    ensures { result ≡ sums (priced prices.now.step prices.now.tables) [] 0 code.now }
 {
-    let mut parts = Stack::new(Part {
-        before: 0,
-        least: 0,
-        rounds: 0,
-    });
-    let mut sum = 0;
-    for place in 0..code.len() {
-        sum = add(code[place], prices, &mut parts, sum);
+    let mut pass = Pass {
+        parts: Stack::new(Part::default()),
+        sum: 0,
+    };
+    for instruction in code {
+        pass.add(*instruction, prices);
     }
-    sum
+    pass.sum
 }

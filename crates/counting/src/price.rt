@@ -1,11 +1,17 @@
 // What is counted.
 ghost use Rattle.std.specs.Prelude.{◌≤◌};
 
-/// What a step counts, and a read and a write of each table.
+/// What a read and a write of one table count.
+#[derive(Clone, Copy)]
+pub struct TablePrice {
+    pub read: usize,
+    pub write: usize,
+}
+
+/// What a step counts, and an access of each table.
 #[derive(Clone, Copy)]
 pub struct Price {
     pub step: usize,
-    pub read: [usize; 8],
-    pub write: [usize; 8],
+    pub tables: [TablePrice; 8],
     ghost small: { step ≤ 1 },
 }

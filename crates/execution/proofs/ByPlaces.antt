@@ -11,6 +11,7 @@ use Rattle.program.specs.declared.opening.Opening.TheVariants.{Then, Otherwise, 
 use Rattle.program.specs.Headers.{first_cell}
 use Rattle.program.specs.Openings.{elsed, ended, againd, past}
 use Rattle.program.specs.Blocks.{Block, done, one, if_then, if_else, loop, flat, depth, fin}
+use Rattle.machine.specs.declared.visit.Choice.TheVariants.{Onward, Inward, Past}
 use Rattle.machine.specs.declared.repeat.OpenRepeat.{OpenRepeat}
 use Rattle.machine.specs.States.{State, visited}
 use Rattle.machine.specs.Machine.{Out, fine, fault, length_of, loads, stores, does, Conf, go, stop, state_of, open_at, closing, land, begin, test, step, next, steps, count}
@@ -198,8 +199,8 @@ module _ (tables : List Table) (code : List Instruction) where
       → ((z : State) → Reach (go (fin t (suc p)) fs z) (land (k z) q' fs))
       → Reach (test tables code n p (flat t (End ∷ is)) fs s) (land (and_then (either n p (exec tables t (suc p)) fine s) k) q' fs)
   case_then zero p q' t is fs s k h l o r f =
-      rw (closing-flat t true zero (suc p) (End ∷ is), h) (f (visited p 2 s))
-  case_then (suc n) p q' t is fs s k h l o r f = seq t (suc p) q' fs fs (visited p 1 s) k l o r f
+      rw (closing-flat t true zero (suc p) (End ∷ is), h) (f (visited p Past s))
+  case_then (suc n) p q' t is fs s k h l o r f = seq t (suc p) q' fs fs (visited p Inward s) k l o r f
 
   case_else : {Note : Type 0} (n p q' : ℕ) (t e : Block Note) (is : List Instruction) (fs : List OpenRepeat) (s : State) (k : State → Out)
       → drop (fin t (suc p)) code ≡ Else ∷ flat e (End ∷ is)
@@ -208,14 +209,14 @@ module _ (tables : List Table) (code : List Instruction) where
       → Runs t (suc p) → Runs e (suc (fin t (suc p)))
       → ((z : State) → Reach (go (fin e (suc (fin t (suc p)))) fs z) (land (k z) q' fs))
       → Reach (test tables code n p (flat t (Else ∷ flat e (End ∷ is))) fs s)
-      (land (and_then (either n p (λ y. and_then (exec tables t (suc p) y) (λ z. fine (visited (fin t (suc p)) 0 z))) (exec tables e (suc (fin t (suc p)))) s) k) q' fs)
+      (land (and_then (either n p (λ y. and_then (exec tables t (suc p) y) (λ z. fine (visited (fin t (suc p)) Onward z))) (exec tables e (suc (fin t (suc p)))) s) k) q' fs)
   case_else zero p q' t e is fs s k h l l' o o1 o2 r r' f =
-      rw (closing-flat t true zero (suc p) (Else ∷ flat e (End ∷ is)), h) (seq e (suc (fin t (suc p))) q' fs fs (visited p 2 s) k l' o2 r' f)
+      rw (closing-flat t true zero (suc p) (Else ∷ flat e (End ∷ is)), h) (seq e (suc (fin t (suc p))) q' fs fs (visited p Past s) k l' o2 r' f)
   case_else (suc n) p q' t e is fs s k h l l' o o1 o2 r r' f =
       let q = fin t (suc p) in
-      let j : (z : State) → Reach (go q fs z) (go (fin e (suc q)) fs (visited q 0 z)) =
-      λ z. one_step q fs z Else (flat e (End ∷ is)) _ h tt o1 refl (arrive _ _ (ap (λ x. go x fs (visited q 0 z)) (closing-flat e false zero (suc q) (End ∷ is)))) in
-      rw (assoc (exec tables t (suc p) (visited p 1 s)) (λ z. fine (visited q 0 z)) k) (seq t (suc p) q' fs fs (visited p 1 s) (λ z. k (visited q 0 z)) l o r (λ z. join _ _ _ (j z) (f (visited q 0 z))))
+      let j : (z : State) → Reach (go q fs z) (go (fin e (suc q)) fs (visited q Onward z)) =
+      λ z. one_step q fs z Else (flat e (End ∷ is)) _ h tt o1 refl (arrive _ _ (ap (λ x. go x fs (visited q Onward z)) (closing-flat e false zero (suc q) (End ∷ is)))) in
+      rw (assoc (exec tables t (suc p) (visited p Inward s)) (λ z. fine (visited q Onward z)) k) (seq t (suc p) q' fs fs (visited p Inward s) (λ z. k (visited q Onward z)) l o r (λ z. join _ _ _ (j z) (f (visited q Onward z))))
 
   all_rounds : {Note : Type 0} (m p : ℕ) (t : Block Note) (is : List Instruction) (fs : List OpenRepeat) (s : State)
       → drop (fin t (suc p)) code ≡ Again ∷ is → depth t + suc (length fs) ≤ 8
@@ -223,19 +224,19 @@ module _ (tables : List Table) (code : List Instruction) where
       → Reach (go (suc p) (open_at (suc p) (suc m) ∷ fs) s) (land (rounds (exec tables t (suc p)) (fin t (suc p)) m s) (suc (fin t (suc p))) fs)
   all_rounds zero p t is fs s h l e1 e2 o r =
       let q = fin t (suc p) in
-      seq t (suc p) (suc q) (open_at (suc p) (suc zero) ∷ fs) fs s (λ z. fine (visited q 2 z)) l (there (open_at (suc p) (suc zero) ∷ fs) e1 (refl, omega arith, o)) r
+      seq t (suc p) (suc q) (open_at (suc p) (suc zero) ∷ fs) fs s (λ z. fine (visited q Past z)) l (there (open_at (suc p) (suc zero) ∷ fs) e1 (refl, omega arith, o)) r
       (λ z. one_step q (open_at (suc p) (suc zero) ∷ fs) z Again is _ h tt (there (open_at (suc p) (suc zero) ∷ fs) e2 (refl, omega arith, o)) refl (here _))
   all_rounds (suc m) p t is fs s h l e1 e2 o r =
       let q = fin t (suc p) in
-      seq t (suc p) (suc q) (open_at (suc p) (suc (suc m)) ∷ fs) fs s (λ z. rounds (exec tables t (suc p)) q m (visited q 1 z)) l (there (open_at (suc p) (suc (suc m)) ∷ fs) e1 (refl, omega arith, o)) r
-      (λ z. one_step q (open_at (suc p) (suc (suc m)) ∷ fs) z Again is _ h tt (there (open_at (suc p) (suc (suc m)) ∷ fs) e2 (refl, omega arith, o)) refl (all_rounds m p t is fs (visited q 1 z) h l e1 e2 o r))
+      seq t (suc p) (suc q) (open_at (suc p) (suc (suc m)) ∷ fs) fs s (λ z. rounds (exec tables t (suc p)) q m (visited q Inward z)) l (there (open_at (suc p) (suc (suc m)) ∷ fs) e1 (refl, omega arith, o)) r
+      (λ z. one_step q (open_at (suc p) (suc (suc m)) ∷ fs) z Again is _ h tt (there (open_at (suc p) (suc (suc m)) ∷ fs) e2 (refl, omega arith, o)) refl (all_rounds m p t is fs (visited q Inward z) h l e1 e2 o r))
 
   case_loop : {Note : Type 0} (n p : ℕ) (t : Block Note) (is : List Instruction) (fs : List OpenRepeat) (s : State)
       → drop (fin t (suc p)) code ≡ Again ∷ is → depth t + suc (length fs) ≤ 8
       → open_around code (suc p) ≡ Loop p ∷ open_around code p → open_around code (fin t (suc p)) ≡ Loop p ∷ open_around code p → Inside (open_around code p) fs → Runs t (suc p)
       → Reach (begin n p (flat t (Again ∷ is)) fs s) (land (repeats (exec tables t (suc p)) p (fin t (suc p)) n s) (suc (fin t (suc p))) fs)
-  case_loop zero p t is fs s h l e1 e2 o r = arrive _ _ (ap (λ x. go (suc x) fs (visited p 2 s)) (closing-flat t false zero (suc p) (Again ∷ is)))
-  case_loop (suc m) p t is fs s h l e1 e2 o r = all_rounds m p t is fs (visited p 1 s) h l e1 e2 o r
+  case_loop zero p t is fs s h l e1 e2 o r = arrive _ _ (ap (λ x. go (suc x) fs (visited p Past s)) (closing-flat t false zero (suc p) (Again ∷ is)))
+  case_loop (suc m) p t is fs s h l e1 e2 o r = all_rounds m p t is fs (visited p Inward s) h l e1 e2 o r
 
   pub runs : {Note : Type 0} (t : Block Note) (p : ℕ) (is : List Instruction) → drop p code ≡ flat t is → Runs t p
   runs done p is h fs s d o = here (go p fs s)
@@ -251,8 +252,8 @@ module _ (tables : List Table) (code : List Instruction) where
       let e2 : open_around code q ≡ Then p a ∷ open_around code p = stays code t (suc p) _ h1 ∙ e1 in
       let e3 : open_around code (suc q) ≡ open_around code p = moves code q End _ h2 ∙ ap ended e2 in
       one_step p fs s (If a) (flat t (End ∷ flat u is)) _ h tt o (test-seen (s.registers a) p _ fs s)
-      (case_then (s.registers a) p (fin u (suc q)) t (flat u is) fs s (λ z. exec tables u (suc q) (visited q 0 z)) h2 (omega arith) (there fs e1 o) (runs t (suc p) _ h1)
-      (λ z. one_step q fs z End (flat u is) _ h2 tt (there fs e2 o) refl (runs u (suc q) is (after code q End (flat u is) h2) fs (visited q 0 z) (omega arith) (there fs e3 o))))
+      (case_then (s.registers a) p (fin u (suc q)) t (flat u is) fs s (λ z. exec tables u (suc q) (visited q Onward z)) h2 (omega arith) (there fs e1 o) (runs t (suc p) _ h1)
+      (λ z. one_step q fs z End (flat u is) _ h2 tt (there fs e2 o) refl (runs u (suc q) is (after code q End (flat u is) h2) fs (visited q Onward z) (omega arith) (there fs e3 o))))
   runs (if_else c a t e u) p is h fs s d o =
       let q = fin t (suc p) in
       let r = fin e (suc q) in
@@ -266,8 +267,8 @@ module _ (tables : List Table) (code : List Instruction) where
       let e4 : open_around code r ≡ Otherwise p a q ∷ open_around code p = stays code e (suc q) _ h3 ∙ e3 in
       let e5 : open_around code (suc r) ≡ open_around code p = moves code r End _ h4 ∙ ap ended e4 in
       one_step p fs s (If a) (flat t (Else ∷ flat e (End ∷ flat u is))) _ h tt o (test-seen (s.registers a) p _ fs s)
-      (case_else (s.registers a) p (fin u (suc r)) t e (flat u is) fs s (λ z. exec tables u (suc r) (visited r 0 z)) h2 (omega arith) (omega arith) (there fs e1 o) (there fs e2 o) (there fs e3 o) (runs t (suc p) _ h1) (runs e (suc q) _ h3)
-      (λ z. one_step r fs z End (flat u is) _ h4 tt (there fs e4 o) refl (runs u (suc r) is (after code r End (flat u is) h4) fs (visited r 0 z) (omega arith) (there fs e5 o))))
+      (case_else (s.registers a) p (fin u (suc r)) t e (flat u is) fs s (λ z. exec tables u (suc r) (visited r Onward z)) h2 (omega arith) (omega arith) (there fs e1 o) (there fs e2 o) (there fs e3 o) (runs t (suc p) _ h1) (runs e (suc q) _ h3)
+      (λ z. one_step r fs z End (flat u is) _ h4 tt (there fs e4 o) refl (runs u (suc r) is (after code r End (flat u is) h4) fs (visited r Onward z) (omega arith) (there fs e5 o))))
   runs (loop a k t u) p is h fs s d o =
       let q = fin t (suc p) in
       let h1 = after code p (Repeat a k) (flat t (Again ∷ flat u is)) h in

@@ -5,6 +5,7 @@ use Rattle.instructions.specs.declared.Op.TheVariants.{Set, Pick, Load, Store}
 use Rattle.program.specs.declared.header.Table.{Table}
 use Rattle.program.specs.Headers.{first_cell}
 use Rattle.program.specs.Blocks.{Block, done, one, if_then, if_else, loop, fin}
+use Rattle.machine.specs.declared.visit.Choice.TheVariants.{Onward, Inward, Past}
 use Rattle.machine.specs.States.{Event, visit, reads, writes, State, visited}
 use Rattle.machine.specs.Machine.{Out, fine, fault, length_of, loads, stores, does, count}
 use Rattle.machine.specs.Nested.{and_then, rounds, repeats, either, exec}
@@ -39,41 +40,41 @@ module _ (w : Price) where
         [ true ↦ omega arith | false ↦ omega arith ]
 
     either_adds : (n p m : ℕ) (F G : State → Out) → Adds m F → Adds m G → Adds (w.step + m) (either n p F G)
-    either_adds zero p m F G f g s = let e = g (visited p 2 s) in omega arith
-    either_adds (suc n) p m F G f g s = let e = f (visited p 1 s) in omega arith
+    either_adds zero p m F G f g s = let e = g (visited p Past s) in omega arith
+    either_adds (suc n) p m F G f g s = let e = f (visited p Inward s) in omega arith
 
     rounds_adds : (m q n : ℕ) (F : State → Out) → Adds n F → Adds (suc m * (n + w.step)) (rounds F q m)
-    rounds_adds zero q n F f s = let e = and_then_adds (F s) (λ z. fine (visited q 2 z)) n w.step (weigh w s.trace) (f s) (λ z. omega arith) in omega arith
+    rounds_adds zero q n F f s = let e = and_then_adds (F s) (λ z. fine (visited q Past z)) n w.step (weigh w s.trace) (f s) (λ z. omega arith) in omega arith
     rounds_adds (suc m) q n F f s =
-        let e = and_then_adds (F s) (λ z. rounds F q m (visited q 1 z)) n (w.step + suc m * (n + w.step)) (weigh w s.trace) (f s)
-        (λ z. let g = rounds_adds m q n F f (visited q 1 z) in omega arith) in
+        let e = and_then_adds (F s) (λ z. rounds F q m (visited q Inward z)) n (w.step + suc m * (n + w.step)) (weigh w s.trace) (f s)
+        (λ z. let g = rounds_adds m q n F f (visited q Inward z) in omega arith) in
         omega arith
 
     repeats_adds : (m p q k n : ℕ) (F : State → Out) → Adds n F → m ≤ k → Adds (w.step + k * (n + w.step)) (repeats F p q m)
     repeats_adds zero p q k n F f h s = omega arith
-    repeats_adds (suc m) p q k n F f h s = let e = rounds_adds m q n F f (visited p 1 s) in omega (arith, mul-le-mul_right (n + w.step) h)
+    repeats_adds (suc m) p q k n F f h s = let e = rounds_adds m q n F f (visited p Inward s) in omega (arith, mul-le-mul_right (n + w.step) h)
 
     pub adds : {Note : Type 0} (b : Block Note) (p : ℕ) → Adds (most_of w b) (exec tables b p)
     adds done p s = omega arith
     adds (one o b) p s = and_then_adds (does tables p o s) (exec tables b (suc p)) (price w o) (most_of w b) (weigh w s.trace) (op_adds p o s) (adds b (suc p))
     adds (if_then c a t b) p s =
         let r = fin t (suc p) in
-        let e = and_then_adds (either (s.registers a) p (exec tables t (suc p)) fine s) (λ z. exec tables b (suc r) (visited r 0 z)) (w.step + most_of w t) (w.step + most_of w b)
+        let e = and_then_adds (either (s.registers a) p (exec tables t (suc p)) fine s) (λ z. exec tables b (suc r) (visited r Onward z)) (w.step + most_of w t) (w.step + most_of w b)
         (weigh w s.trace) (either_adds (s.registers a) p (most_of w t) (exec tables t (suc p)) fine (adds t (suc p)) (λ z. omega arith) s)
-        (λ z. let g = adds b (suc r) (visited r 0 z) in omega arith) in
+        (λ z. let g = adds b (suc r) (visited r Onward z) in omega arith) in
         omega arith
     adds (if_else c a t e b) p s =
         let r = fin t (suc p) in
         let r2 = fin e (suc r) in
         let m = max (most_of w t + w.step) (most_of w e) in
-        let k = and_then_adds (either (s.registers a) p (λ y. and_then (exec tables t (suc p) y) (λ z. fine (visited r 0 z))) (exec tables e (suc r)) s) (λ z. exec tables b (suc r2) (visited r2 0 z))
+        let k = and_then_adds (either (s.registers a) p (λ y. and_then (exec tables t (suc p) y) (λ z. fine (visited r Onward z))) (exec tables e (suc r)) s) (λ z. exec tables b (suc r2) (visited r2 Onward z))
         (w.step + m) (w.step + most_of w b) (weigh w s.trace)
-        (either_adds (s.registers a) p m (λ y. and_then (exec tables t (suc p) y) (λ z. fine (visited r 0 z))) (exec tables e (suc r))
+        (either_adds (s.registers a) p m (λ y. and_then (exec tables t (suc p) y) (λ z. fine (visited r Onward z))) (exec tables e (suc r))
         (λ z.
-        let f = and_then_adds (exec tables t (suc p) z) (λ v. fine (visited r 0 v)) (most_of w t) w.step (weigh w z.trace) (adds t (suc p) z) (λ v. omega arith) in
+        let f = and_then_adds (exec tables t (suc p) z) (λ v. fine (visited r Onward v)) (most_of w t) w.step (weigh w z.trace) (adds t (suc p) z) (λ v. omega arith) in
         omega arith)
         (λ z. let f = adds e (suc r) z in omega arith) s)
-        (λ z. let g = adds b (suc r2) (visited r2 0 z) in omega arith) in
+        (λ z. let g = adds b (suc r2) (visited r2 Onward z) in omega arith) in
         omega arith
     adds (loop a k t b) p s =
         let r = fin t (suc p) in

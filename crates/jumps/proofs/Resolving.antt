@@ -1,5 +1,7 @@
 -- The pass from the end that finds each jump.
-use Rattle.std.proofs.Common.{◌≡◌, ℕ, suc, ◌+◌, ◌<◌, ◌≤◌, false, cond, ◌≢◌, List, [], ◌∷◌, length, get_or, drop, set, None, sym, refl, ap, ◌∙◌, subst, ⊎_elim, add-one, arith, length-drop}
+use Rattle.std.proofs.Common.{◌≡◌, ℕ, suc, ◌+◌, ◌<◌, ◌≤◌, false, cond, ◌≢◌, List, [], ◌∷◌, ◌++◌, length, get_or, drop, set, None, sym, refl, ap, ◌∙◌, subst, ⊎_elim, add-one, append_assoc, arith, length-drop, length-append}
+use Rattle.std.specs.List.{push}
+use Rattle.std.proofs.Math.Seq.{drop-append_seam}
 use Rattle.std.proofs.lemmas.List.{get_or-set_same, get_or-set_other, drop_all}
 use Rattle.std.proofs.lemmas.Bool.{cases_order, lt-ltb}
 use Rattle.instructions.specs.declared.Op.{Op}
@@ -166,7 +168,7 @@ module _ (code : List Instruction) where
         right = λ q i is g f. (let k = ap length f in let m = length-drop q code in absurd (omega arith));
       }
 
-  pub pass_more : pairing [] 0 code ≡ None → {place p : ℕ} {i : Instruction} {cs : List Closer} {js : List ℕ} {cs' : List Closer} {js' : List ℕ}
+  pass_more : pairing [] 0 code ≡ None → {place p : ℕ} {i : Instruction} {cs : List Closer} {js : List ℕ} {cs' : List Closer} {js' : List ℕ}
       → p + 1 ≡ place → drop p code ≡ i ∷ drop (p + 1) code → p < length code → p < 3000
       → Passed place cs js → length js' ≡ 3000 → Noted i p cs js cs' js' → Passed p cs' js'
   pass_more pairs {place} {p} {i} {cs} {js} {cs'} {js'} e h l m s w n =
@@ -184,6 +186,25 @@ module _ (code : List Instruction) where
         closes = subst (λ (x : List Instruction). Closes 0 p x cs') (sym h) (closes_more p i is cs js cs' js' h wa n cl);
         right = right_more p i is cs js cs' js' h lt wa n cl (subst (λ x. Right x js) (sym es) s.right);
       }
+
+  -- the last of the first instructions
+  front_last : {rest : List Instruction} (front : List Instruction) (i : Instruction) → rest ++ drop (length rest) code ≡ code → rest ≡ push front i
+      → (front ++ drop (length front) code ≡ code) × (drop (length front) code ≡ i ∷ drop (length front + 1) code) × (length front + 1 ≡ length rest)
+  front_last {rest} front i f e =
+      let more = drop (length rest) code in
+      let long : length front + 1 ≡ length rest = sym (ap length e ∙ length-append front (i ∷ [])) in
+      let whole : front ++ (i ∷ more) ≡ code = sym (append_assoc front (i ∷ []) more) ∙ (ap (λ l. l ++ more) (sym e) ∙ f) in
+      let here : drop (length front) code ≡ i ∷ more = ap (drop (length front)) (sym whole) ∙ drop-append_seam front (i ∷ more) in
+      (ap (λ l. front ++ l) here ∙ whole, here ∙ ap (λ n. i ∷ drop n code) (sym long), long)
+
+  -- the pass goes on with the last of the instructions that are left
+  pub pass_turn : pairing [] 0 code ≡ None → length code ≤ 3000 → {rest : List Instruction} (front : List Instruction) {p : ℕ} (i : Instruction) {cs : List Closer} {js : List ℕ} {cs' : List Closer} {js' : List ℕ}
+      → rest ++ drop (length rest) code ≡ code → rest ≡ push front i → p ≡ length front → Passed (length rest) cs js → length js' ≡ 3000 → Noted i p cs js cs' js'
+      → (front ++ drop (length front) code ≡ code) × Passed (length front) cs' js'
+  pass_turn pairs short {rest} front {p} i {cs} {js} {cs'} {js'} f e at s w n =
+      let l = front_last front i f e in
+      let lt : length front < length code = (let k = length-append rest (drop (length rest) code) in let g = ap length f in let h = l.2 in omega arith) in
+      (l.0, pass_more pairs l.2 l.1 lt (omega arith) s w (subst (λ q. Noted i q cs js cs' js') at n))
 
   pub pass_all : {n : ℕ} {cs : List Closer} {js : List ℕ} → n ≤ 0 → Passed n cs js → (q : ℕ) (i : Instruction) (is : List Instruction) → drop q code ≡ i ∷ is → Jumps code (get_or js q 0) q i is
   pass_all h s q i is e = s.right q i is (omega arith) e

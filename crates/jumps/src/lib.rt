@@ -4,33 +4,19 @@
 ghost use Rattle.std.specs.Prelude.{◌≡◌, ◌<◌};
 ghost use Rattle.stack.specs.Held.{held};
 ghost use Rattle.machine.specs.Programs.{code_of};
-ghost use Rattle.jumps.specs.Jumps.{innermost, Noted, Resolved};
+ghost use Rattle.jumps.specs.Jumps.{Noted, Resolved};
 
 use instructions::Instruction;
-use machine::places::at;
 use program::program::Program;
 use stack::Stack;
 
 /// A bracket that closes, as a pass from the end meets it: where an if that fails goes, where its
 /// else goes, and where a repeat without rounds goes.
-#[derive(Clone, Copy)]
+#[derive(Clone, Copy, Default)]
 pub struct Closer {
     pub other: u16,
     pub close: u16,
     pub after: u16,
-}
-
-fn innermost(closers: &Stack<Closer>) -> Closer
-    ensures { result ≡ innermost (held closers.now) }
-{
-    match closers.top() {
-        Some(closer) => closer,
-        None => Closer {
-            other: 0,
-            close: 0,
-            after: 0,
-        },
-    }
 }
 
 // Passes the instruction at `place`, backwards.
@@ -44,7 +30,7 @@ fn note(
     ensures { Noted instruction place (held closers.old) jumps.old (held closers.new) jumps.new }
 {
     let here = place as u16;
-    let closer = innermost(closers);
+    let closer = closers.top().unwrap_or_default();
     match instruction {
         Instruction::Do { .. } => {}
         Instruction::If { .. } => {
@@ -78,13 +64,9 @@ pub fn resolve(program: &Program) -> [u16; 3000]
     ensures { Resolved (code_of program.now) result }
 {
     let mut jumps = [0; 3000];
-    let mut closers = Stack::new(Closer {
-        other: 0,
-        close: 0,
-        after: 0,
-    });
-    for place in (0..program.header().count as usize).rev() {
-        note(at(program, place), place, &mut closers, &mut jumps);
+    let mut closers = Stack::new(Closer::default());
+    for (place, instruction) in program.code().iter().enumerate().rev() {
+        note(*instruction, place, &mut closers, &mut jumps);
     }
     jumps
 }

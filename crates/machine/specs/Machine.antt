@@ -6,6 +6,7 @@ use Rattle.instructions.specs.declared.Instruction.{Instruction}
 use Rattle.instructions.specs.declared.Instruction.TheVariants.{Do, If, Else, End, Repeat, Again}
 use Rattle.program.specs.declared.header.Table.{Table}
 use Rattle.program.specs.Headers.{no_table, first_cell}
+use Rattle.machine.specs.declared.visit.Choice.TheVariants.{Onward, Inward, Past, Fault}
 use Rattle.machine.specs.declared.repeat.OpenRepeat.{OpenRepeat}
 use Rattle.machine.specs.Words.{value_of}
 use Rattle.machine.specs.States.{Event, visit, reads, writes, State, held, noted, visited, with_register, with_cell}
@@ -25,20 +26,20 @@ abbrev pub length_of : List Table → ℕ → ℕ
 length_of tables t = (slice_index_or tables t no_table).length
 
 -- a load at place p of offset i of table t, cell c, into register d, where the offset is in range or
--- not: choice 0 and an access, or choice 3 and a fault
+-- not: onward after an access, or a fault
 abbrev pub loads : Bool → ℕ → ℕ → ℕ → ℕ → ℕ → State → Out
-loads true p d t i c s = fine (with_register d (s.cells c) (noted (reads p t i) (visited p 0 s)))
-loads false p d t i c s = fault p (visited p 3 s)
+loads true p d t i c s = fine (with_register d (s.cells c) (noted (reads p t i) (visited p Onward s)))
+loads false p d t i c s = fault p (visited p Fault s)
 
 -- a store of register d, likewise
 abbrev pub stores : Bool → ℕ → ℕ → ℕ → ℕ → ℕ → State → Out
-stores true p d t i c s = fine (with_cell c (s.registers d) (noted (writes p t i) (visited p 0 s)))
-stores false p d t i c s = fault p (visited p 3 s)
+stores true p d t i c s = fine (with_cell c (s.registers d) (noted (writes p t i) (visited p Onward s)))
+stores false p d t i c s = fault p (visited p Fault s)
 
 -- the op at place p
 abbrev pub does : List Table → ℕ → Op → State → Out
-does tables p (Set d v) s = fine (with_register d (value_of v s.registers) (visited p 0 s))
-does tables p (Pick d a b) s = fine (with_register d (if_not0 (s.registers a) (s.registers b) (s.registers d)) (visited p 0 s))
+does tables p (Set d v) s = fine (with_register d (value_of v s.registers) (visited p Onward s))
+does tables p (Pick d a b) s = fine (with_register d (if_not0 (s.registers a) (s.registers b) (s.registers d)) (visited p Onward s))
 does tables p (Load d a t) s = loads (nat_lt (s.registers a) (length_of tables t)) p d t (s.registers a) (first_cell tables t + s.registers a) s
 does tables p (Store d a t) s = stores (nat_lt (s.registers a) (length_of tables t)) p d t (s.registers a) (first_cell tables t + s.registers a) s
 
@@ -93,13 +94,13 @@ land (fault q s) p fs = stop q s
 -- a repeat at p with so many rounds, in front of the instructions is: past its again, or its first
 -- round
 abbrev pub begin : ℕ → ℕ → List Instruction → List OpenRepeat → State → Conf
-begin zero p is fs s = go (suc (closing false zero (suc p) is)) fs (visited p 2 s)
-begin (suc m) p is fs s = go (suc p) (open_at (suc p) (suc m) ∷ fs) (visited p 1 s)
+begin zero p is fs s = go (suc (closing false zero (suc p) is)) fs (visited p Past s)
+begin (suc m) p is fs s = go (suc p) (open_at (suc p) (suc m) ∷ fs) (visited p Inward s)
 
 -- an again at p, with so many rounds to come of a repeat whose body begins at q
 abbrev pub goes_on : ℕ → ℕ → List OpenRepeat → ℕ → State → Conf
-goes_on zero q fs p s = go (suc p) fs (visited p 2 s)
-goes_on (suc m) q fs p s = go q (open_at q (suc m) ∷ fs) (visited p 1 s)
+goes_on zero q fs p s = go (suc p) fs (visited p Past s)
+goes_on (suc m) q fs p s = go q (open_at q (suc m) ∷ fs) (visited p Inward s)
 
 -- an again at p lowers the rounds left of the innermost open repeat by one (there always is one)
 abbrev pub back : List OpenRepeat → ℕ → State → Conf
@@ -114,16 +115,16 @@ other code d p is = after_else (drop (closing true d p is) code) (closing true d
 module _ (tables : List Table) (code : List Instruction) where
   -- an if at p, by its register's word
   abbrev pub test : ℕ → ℕ → List Instruction → List OpenRepeat → State → Conf
-  test zero p is fs s = go (other code zero (suc p) is) fs (visited p 2 s)
-  test (suc n) p is fs s = go (suc p) fs (visited p 1 s)
+  test zero p is fs s = go (other code zero (suc p) is) fs (visited p Past s)
+  test (suc n) p is fs s = go (suc p) fs (visited p Inward s)
 
   -- one step at p, where these instructions are left
   abbrev pub step : List Instruction → ℕ → List OpenRepeat → State → Conf
   step [] p fs s = go p fs s
   step (Do op ∷ is) p fs s = land (does tables p op s) (suc p) fs
   step (If a ∷ is) p fs s = test (s.registers a) p is fs s
-  step (Else ∷ is) p fs s = go (closing false zero (suc p) is) fs (visited p 0 s)
-  step (End ∷ is) p fs s = go (suc p) fs (visited p 0 s)
+  step (Else ∷ is) p fs s = go (closing false zero (suc p) is) fs (visited p Onward s)
+  step (End ∷ is) p fs s = go (suc p) fs (visited p Onward s)
   step (Repeat a k ∷ is) p fs s = begin (min (s.registers a) k) p is fs s
   step (Again ∷ is) p fs s = back fs p s
 

@@ -2,6 +2,7 @@
 use Rattle.std.specs.Prelude.{ℕ, zero, suc, min, List}
 use Rattle.program.specs.declared.header.Table.{Table}
 use Rattle.program.specs.Blocks.{Block, done, one, if_then, if_else, loop, fin}
+use Rattle.machine.specs.declared.visit.Choice.TheVariants.{Onward, Inward, Past}
 use Rattle.machine.specs.States.{State, visited}
 use Rattle.machine.specs.Machine.{Out, fine, fault, does}
 
@@ -12,18 +13,18 @@ and_then (fault p s) k = fault p s
 
 -- a body f, then its again at place q, and so often more
 abbrev pub rounds : (State → Out) → ℕ → ℕ → State → Out
-rounds f q zero s = and_then (f s) (λ z. fine (visited q 2 z))
-rounds f q (suc m) s = and_then (f s) (λ z. rounds f q m (visited q 1 z))
+rounds f q zero s = and_then (f s) (λ z. fine (visited q Past z))
+rounds f q (suc m) s = and_then (f s) (λ z. rounds f q m (visited q Inward z))
 
 -- a repeat at p with its again at q, and so many rounds
 abbrev pub repeats : (State → Out) → ℕ → ℕ → ℕ → State → Out
-repeats f p q zero s = fine (visited p 2 s)
-repeats f p q (suc m) s = rounds f q m (visited p 1 s)
+repeats f p q zero s = fine (visited p Past s)
+repeats f p q (suc m) s = rounds f q m (visited p Inward s)
 
 -- an if at p, by its register's word
 abbrev pub either : ℕ → ℕ → (State → Out) → (State → Out) → State → Out
-either zero p f g s = g (visited p 2 s)
-either (suc n) p f g s = f (visited p 1 s)
+either zero p f g s = g (visited p Past s)
+either (suc n) p f g s = f (visited p Inward s)
 
 module _ {Note : Type 0} (tables : List Table) where
   -- a block that begins at p
@@ -32,10 +33,10 @@ module _ {Note : Type 0} (tables : List Table) where
   exec (one op b) p s = and_then (does tables p op s) (exec b (suc p))
   exec (if_then n a t b) p s =
       and_then (either (s.registers a) p (exec t (suc p)) fine s)
-      (λ z. exec b (suc (fin t (suc p))) (visited (fin t (suc p)) 0 z))
+      (λ z. exec b (suc (fin t (suc p))) (visited (fin t (suc p)) Onward z))
   exec (if_else n a t e b) p s =
       and_then
-      (either (s.registers a) p (λ y. and_then (exec t (suc p) y) (λ z. fine (visited (fin t (suc p)) 0 z))) (exec e (suc (fin t (suc p)))) s)
-      (λ z. exec b (suc (fin e (suc (fin t (suc p))))) (visited (fin e (suc (fin t (suc p)))) 0 z))
+      (either (s.registers a) p (λ y. and_then (exec t (suc p) y) (λ z. fine (visited (fin t (suc p)) Onward z))) (exec e (suc (fin t (suc p)))) s)
+      (λ z. exec b (suc (fin e (suc (fin t (suc p))))) (visited (fin e (suc (fin t (suc p)))) Onward z))
   exec (loop a k t b) p s =
       and_then (repeats (exec t (suc p)) p (fin t (suc p)) (min (s.registers a) k) s) (exec b (suc (fin t (suc p))))

@@ -1,9 +1,10 @@
 -- What a run changes: registers and cells, as functions from number to word, and its trace.
 use Rattle.std.specs.Prelude.{ℕ, cond, List, ◌∷◌, ◌==◌, slice_index}
+use Rattle.machine.specs.declared.visit.Choice.{Choice}
 
 -- what is written down: a step with its place and choice; an access with its place, table and offset
 pub data Event : Type 0 where
-  visit : ℕ → ℕ → Event
+  visit : ℕ → Choice → Event
   reads writes : ℕ → ℕ → ℕ → Event
 
 -- registers, cells, and the trace, newest first
@@ -25,7 +26,7 @@ abbrev pub noted : Event → State → State
 noted e s = record { registers = s.registers; cells = s.cells; trace = e ∷ s.trace }
 
 -- one more visit, of place p with choice c
-abbrev pub visited : ℕ → ℕ → State → State
+abbrev pub visited : ℕ → Choice → State → State
 visited p c s = noted (visit p c) s
 
 -- register d gets v

@@ -17,8 +17,8 @@ pub fn binary(op: BinaryOp, x: u32, y: u32) -> u32
         BinaryOp::And => x & y,
         BinaryOp::Or => x | y,
         BinaryOp::Xor => x ^ y,
-        BinaryOp::Below => { if x < y { 1 } else { 0 } }
-        BinaryOp::Same => { if x == y { 1 } else { 0 } }
+        BinaryOp::Below => u32::from(x < y),
+        BinaryOp::Same => u32::from(x == y),
     }
 }
 

@@ -1,6 +1,7 @@
 -- How a run moves.
 use Rattle.std.specs.Prelude.{◌≡◌, List, [], ◌∷◌, ℕ}
 use Rattle.machine.specs.declared.repeat.OpenRepeat.{OpenRepeat}
+use Rattle.machine.specs.declared.visit.Choice.{Choice}
 use Rattle.machine.specs.Machine.{open_at}
 use Rattle.repeats.specs.declared.Move.{Move}
 
@@ -10,5 +11,5 @@ innermost [] = open_at 0 0
 innermost (f ∷ fs) = f
 
 -- the run goes to place p, and its visit has choice c
-abbrev pub Goes : ℕ → ℕ → Move → Type 0
+abbrev pub Goes : ℕ → Choice → Move → Type 0
 Goes p c m = (m.place ≡ p) × (m.choice ≡ c)

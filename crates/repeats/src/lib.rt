@@ -1,110 +1,81 @@
-// The table of open repeats, and how a repeat and its again move a run.
+// The open repeats, and how a repeat and its again move a run.
 #![tactic(auto)]
 
 ghost use Rattle.std.specs.Prelude.{◌≡◌, [], ◌∷◌, ◌<◌, ◌≤◌, length};
-ghost use Rattle.stack.specs.Items.{items, below};
+ghost use Rattle.stack.specs.Items.{below};
+ghost use Rattle.stack.specs.Held.{held};
+ghost use Rattle.machine.specs.declared.visit.Choice.TheVariants.{Inward, Past};
 ghost use Rattle.machine.specs.Machine.{open_at, lowered};
 ghost use Rattle.repeats.specs.Moves.{innermost, Goes};
 
 use machine::repeat::OpenRepeat;
+use machine::visit::Choice;
+use stack::Stack;
 
 /// Where a step goes, and the choice that its visit has.
 #[derive(Clone, Copy)]
 pub struct Move {
     pub place: usize,
-    pub choice: u8,
+    pub choice: Choice,
 }
 
-/// The open repeats: the first `depth` rows, the innermost last.
+/// The open repeats, the innermost on top.
 #[derive(Drop)]
 pub struct Repeats {
-    rows: [OpenRepeat; 8],
-    depth: usize,
-    ghost few: { depth ≤ 8 },
-    ghost room: { length rows ≡ 8 },
+    open: Stack<OpenRepeat>,
 }
 
 impl Repeats {
     /// No repeat is open.
     pub fn new() -> Repeats
-        ensures { items result.rows result.depth ≡ [] }
+        ensures { held result.open ≡ [] }
     {
         Repeats {
-            rows: [OpenRepeat { start: 0, left: 0 }; 8],
-            depth: 0,
+            open: Stack::new(OpenRepeat { start: 0, left: 0 }),
         }
     }
 
     /// A repeat with so many rounds: the first begins, or the run goes past it.
     pub fn begin(&mut self, rounds: u32, next: usize, past: usize) -> Move
-        requires { self.old.depth < 8 }
-        ensures none { rounds ≡ 0 → Goes past 2 result × (items self.new.rows self.new.depth ≡ items self.old.rows self.old.depth) }
-        ensures some { 0 < rounds → Goes next 1 result × (items self.new.rows self.new.depth ≡ open_at next rounds ∷ items self.old.rows self.old.depth) }
+        requires { length (held self.old.open) < 8 }
+        ensures none { rounds ≡ 0 → Goes past Past result × (held self.new.open ≡ held self.old.open) }
+        ensures some { 0 < rounds → Goes next Inward result × (held self.new.open ≡ open_at next rounds ∷ held self.old.open) }
     {
         if rounds == 0 {
             return Move {
                 place: past,
-                choice: 2,
+                choice: Choice::Past,
             };
         }
-        self.push(OpenRepeat {
+        let _ = self.open.push(OpenRepeat {
             start: next,
             left: rounds,
         });
         Move {
             place: next,
-            choice: 1,
+            choice: Choice::Inward,
         }
     }
 
     /// An again lowers the rounds left of its own repeat by one: the next round, or on.
     pub fn back(&mut self, next: usize) -> Move
-        requires { 0 < self.old.depth }
-        ensures none { (innermost (items self.old.rows self.old.depth)).left ≤ 1 → Goes next 2 result × (items self.new.rows self.new.depth ≡ below (items self.old.rows self.old.depth)) }
-        ensures some { 1 < (innermost (items self.old.rows self.old.depth)).left → Goes (innermost (items self.old.rows self.old.depth)).start 1 result × (items self.new.rows self.new.depth ≡ lowered (innermost (items self.old.rows self.old.depth)) ∷ below (items self.old.rows self.old.depth)) }
+        requires { 0 < length (held self.old.open) }
+        ensures none { (innermost (held self.old.open)).left ≤ 1 → Goes next Past result × (held self.new.open ≡ below (held self.old.open)) }
+        ensures some { 1 < (innermost (held self.old.open)).left → Goes (innermost (held self.old.open)).start Inward result × (held self.new.open ≡ lowered (innermost (held self.old.open)) ∷ below (held self.old.open)) }
     {
-        self.lower();
-        let own = self.innermost();
+        let mut own = self.open.top().unwrap();
+        own.lower();
         if own.left == 0 {
-            self.pop();
+            self.open.pop();
             return Move {
                 place: next,
-                choice: 2,
+                choice: Choice::Past,
             };
         }
+        self.open.swap(own);
         Move {
             place: own.start,
-            choice: 1,
+            choice: Choice::Inward,
         }
-    }
-
-    fn push(&mut self, row: OpenRepeat)
-        requires { self.old.depth < 8 }
-        ensures { items self.new.rows self.new.depth ≡ row ∷ items self.old.rows self.old.depth }
-    {
-        self.rows[self.depth] = row;
-        self.depth += 1;
-    }
-
-    fn pop(&mut self)
-        requires { 0 < self.old.depth }
-        ensures { items self.new.rows self.new.depth ≡ below (items self.old.rows self.old.depth) }
-    {
-        self.depth -= 1;
-    }
-
-    fn innermost(&self) -> OpenRepeat
-        requires { 0 < self.now.depth }
-        ensures { result ≡ innermost (items self.now.rows self.now.depth) }
-    {
-        self.rows[self.depth - 1]
-    }
-
-    fn lower(&mut self)
-        requires { 0 < self.old.depth }
-        ensures rows { items self.new.rows self.new.depth ≡ lowered (innermost (items self.old.rows self.old.depth)) ∷ below (items self.old.rows self.old.depth) }
-        ensures depth { self.new.depth ≡ self.old.depth }
-    {
-        self.rows[self.depth - 1].lower();
     }
 }

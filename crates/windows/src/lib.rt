@@ -19,8 +19,8 @@ pub fn lay(program: &Program) -> [Window; 8]
         length: 0,
     }; 8];
     let mut first = 0;
-    for t in 0..8usize {
-        let length = tables[t].length as usize;
+    for (t, table) in tables.iter().enumerate() {
+        let length = table.length as usize;
         windows[t] = Window { first, length };
         first += length;
     }
@@ -39,6 +39,10 @@ pub fn of_table(windows: &[Window; 8], table: u8) -> Window
 pub fn cells(program: &Program) -> usize
     ensures { result ≡ cells_of program.now.header.tables }
 {
-    let last = of_table(&lay(program), 7);
-    last.first + last.length
+    program
+        .header()
+        .tables
+        .iter()
+        .map(|table| table.length as usize)
+        .sum()
 }

@@ -1,9 +1,9 @@
-use Rattle.std.proofs.Common.{◌≡◌, [], map, sym, ap, ◌∙◌, subst}
-use Rattle.memory.specs.declared.Access.TheVariants.{Read}
+use Rattle.std.proofs.Common.{◌≡◌, [], sym, ap, ◌∙◌, subst}
 use Rattle.machine.specs.Programs.{code_of}
 use Rattle.machine.proofs.Programs.{code_pairs}
 use Rattle.counting.specs.Counting.{Sum, sums, priced, mark_price, most_marks, Countable}
 use Rattle.counting.proofs.Sums.{summed, not_held}
+use Rattle.counting.proofs.Adding.{marks_alone}
 use Rattle.counting.proofs.Countables.{countable}
 use Rattle.counting.proofs.most_marks.Goals as goal
 
@@ -15,12 +15,11 @@ returns g c =
     let s = c.args.program.now in
     let cost = (g.M.Memory.model c.args.memory.now).rules.cost in
     let w = mark_price cost s.header.tables in
-    let reads = map (λ t. cost Read t.length) s.header.tables in
     let e : c.most.result ≡ most_marks cost s.header.tables (code_of s) =
     c.most.ensures
-    ∙ ap (sums (priced 0 c.costs.result c.costs-2.result) [] 0) c.code.ensures
-    ∙ ap (λ l. sums (priced 0 l c.costs-2.result) [] 0 (code_of s)) c.costs.ensures.each
-    ∙ ap (λ l. sums (priced 0 reads l) [] 0 (code_of s)) c.costs-2.ensures.each in
+    ∙ ap (sums (priced 0 c.costs.result) [] 0) c.code.ensures
+    ∙ ap (λ l. sums (priced 0 l) [] 0 (code_of s)) c.costs.ensures.each
+    ∙ ap (λ w. sums w [] 0 (code_of s)) (marks_alone cost s.header.tables) in
     record {
       value = e;
       sum = subst (Sum w (code_of s)) (sym e) (summed w (code_of s) (code_pairs s));

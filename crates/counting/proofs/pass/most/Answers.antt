@@ -5,28 +5,26 @@ use Rattle.machine.specs.Fits.{Fit}
 use Rattle.counting.proofs.Adding.{count_none, count_more, count_all}
 use Rattle.counting.proofs.pass.most.Goals as goal
 
-pub add-sum-requires : goal.add-sum-requires
-add-sum-requires c =
+pub add-requires : goal.add-requires
+add-requires c =
     let code = c.args.code.now in
-    let l = c.loop-place in
-    let lt : l.place < length c.args.code.now = search rules in
-    record {
-      fits = subst (Fit 32 8) (sym (get_or_default code l.place _ Again lt)) (c.requires.fits l.place lt);
-      small = l.invariant.small;
-    }
+    let l = c.loop-instruction in
+    let lt : l.instruction-index < length code = search rules in
+    subst (Fit 32 8) (sym (get_or_default code l.instruction-index _ Again lt)) (c.requires.fits l.instruction-index lt)
 
-pub loop-place-init : goal.loop-place-init
-loop-place-init c = count_none _ c.args.code.now c.requires.pairs _ c.new-parts.ensures
+pub loop-instruction-init : goal.loop-instruction-init
+loop-instruction-init c = count_none _ c.args.code.now c.requires.pairs _ c.new.ensures
 
-pub loop-place-preserved : goal.loop-place-preserved
-loop-place-preserved c =
+pub loop-instruction-preserved : goal.loop-instruction-preserved
+loop-instruction-preserved c =
     let code = c.args.code.now in
-    let l = c.loop-place in
-    let lt : l.place < length c.args.code.now = search rules in
-    let here = drop_more code l.place Again lt ∙ ap (λ i. i ∷ drop (l.place + 1) code) (sym (get_or_default code l.place _ Again lt)) in
-    count_more _ code c.requires.pairs here lt l.invariant c.add-sum.ensures.pass c.add-sum.ensures.small
+    let l = c.loop-instruction in
+    let p = l.instruction-index in
+    let lt : p < length code = search rules in
+    let here = drop_more code p Again lt ∙ ap (λ i. i ∷ drop (p + 1) code) (sym (get_or_default code p _ Again lt)) in
+    count_more _ code c.requires.pairs here lt l.invariant c.add.ensures c.add.new.self.small
 
 pub returns : goal.returns
 returns c =
-    let le : length c.args.code.now ≤ c.loop-place.place = search rules in
-    count_all _ c.args.code.now le c.loop-place.invariant
+    let le : length c.args.code.now ≤ c.loop-instruction.instruction-index = search rules in
+    count_all _ c.args.code.now le c.loop-instruction.invariant
