@@ -1,4 +1,4 @@
-// Brackets: pairing them, and what a row of instructions with paired brackets is.
+// Brackets: what is open around a place, and what a row of instructions with paired brackets is.
 #![tactic(auto)]
 
-pub mod matcher;
+pub mod openings;

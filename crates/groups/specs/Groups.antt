@@ -26,14 +26,23 @@ abbrev pub and_mask : Option ℕ → ℕ → List Op
 and_mask None x = []
 and_mask (Some m) x = Set x (Binary And x m) ∷ []
 
+-- an op into register d: behind a mask it goes into 25, and from there where the mask is not 0
+abbrev pub masked : Option ℕ → (ℕ → Op) → ℕ → List Op
+masked None op d = op d ∷ []
+masked (Some m) op d = op 25 ∷ Pick d m 25 ∷ []
+
 -- a value into register d
 abbrev pub set_group : Option ℕ → ℕ → Value → List Op
-set_group None d v = Set d v ∷ []
-set_group (Some m) d v = Set 25 v ∷ Pick d m 25 ∷ []
+set_group mask d v = masked mask (λ r. Set r v) d
 
+-- behind a mask 25 gets what register d has
+abbrev pub kept : Option ℕ → ℕ → List Op
+kept None d = []
+kept (Some m) d = Set 25 (Move d) ∷ []
+
+-- a pick behind a mask is tried in 25, on what its target has
 abbrev pub pick_group : Option ℕ → ℕ → ℕ → ℕ → List Op
-pick_group None d a b = Pick d a b ∷ []
-pick_group (Some m) d a b = Set 25 (Move d) ∷ Pick 25 a b ∷ Pick d m 25 ∷ []
+pick_group mask d a b = kept mask d ++ masked mask (λ r. Pick r a b) d
 
 -- a load or store by index register a in a table of t cells begins so: 25 tells whether the index
 -- is good, and 26 is the index or 0
@@ -56,8 +65,7 @@ abbrev pub guard : Option ℕ → ℕ → ℕ → ℕ → List Op
 guard mask t p a = guard_start t a ++ (and_mask mask 27 ++ guard_mark p)
 
 abbrev pub load_end : Option ℕ → ℕ → ℕ → List Op
-load_end None d b = Load d 26 b ∷ []
-load_end (Some m) d b = Load 25 26 b ∷ Pick d m 25 ∷ []
+load_end mask d b = masked mask (λ r. Load r 26 b) d
 
 -- table b at index 26 gets d where 25 is not 0, and otherwise what it had
 abbrev pub exchange : ℕ → ℕ → List Op

@@ -1,98 +1,123 @@
 // What each op becomes, and what a secret if and its else become.
 ghost use Rattle.std.specs.Prelude.{◌≡◌, ℕ, ◌+◌, ◌<◌, ◌≤◌, true, [], ◌∷◌, ◌++◌, length};
-ghost use Rattle.groups.specs.Outputs.{written};
 ghost use Rattle.program.specs.Bounds.{bound_op};
-ghost use Rattle.groups.specs.Groups.{straight, mask_at, lengths, op_group, set_group, pick_group, and_mask, in_range, first_bad, guard_start, guard, load_end, store_end, if_group, else_group};
+ghost use Rattle.instructions.specs.declared.Op.{Op};
+ghost use Rattle.groups.specs.Groups.{straight, mask_at, lengths, op_group, masked, kept, pick_group, and_mask, in_range, first_bad, guard, load_end, store_end, if_group, else_group};
 
 use crate::output::Output;
 use instructions::{BinaryOp, Op, Register, Value};
 use program::header::Table;
 
-// A value goes into 25, and from there where the mask is not 0.
-fn set_group(out: &mut Output, mask: Option<Register>, d: Register, value: Value)
-    requires { out.old.count + 2 ≤ 3000 }
-    ensures count { out.new.count ≤ out.old.count + 2 }
-    ensures written { written out.new ≡ written out.old ++ straight (set_group mask d value) }
+/// A source place, and the register that masks it, where there is one.
+#[derive(Clone, Copy)]
+pub struct Site {
+    pub place: usize,
+    pub mask: Option<Register>,
+}
+
+// What a load or a store goes to: the cell of a table of so many cells, at the index.
+#[derive(Clone, Copy)]
+struct Access {
+    table: u8,
+    cells: u16,
+    index: Register,
+}
+
+// An op with its target. Behind a mask it goes into 25, and from there where the mask is not 0.
+fn masked<F: FnOnce(Register) -> Op>(
+    out: &mut Output,
+    mask: Option<Register>,
+    target: Register,
+    op: F,
+)
+    requires room { length out.old + 2 ≤ 3000 }
+    requires callable { F.IsAlwaysCallable op }
+    ensures { (f : ℕ → Op) → ((r : ℕ) → r < 256 → (o : Op) → F.post op r o → o ≡ f r) → out.new ≡ out.old ++ straight (masked mask f target) }
 {
     match mask {
-        None => out.put(&[Op::Set { target: d, value }]),
-        Some(m) => out.put(&[
-            Op::Set { target: 25, value },
+        None => out.put(&[op(target)]),
+        Some(mask) => out.put(&[
+            op(25),
             Op::Pick {
-                target: d,
-                condition: m,
+                target,
+                condition: mask,
                 from: 25,
             },
         ]),
     }
 }
 
-// A pick is tried in 25, and goes from there where the mask is not 0.
-fn pick_group(out: &mut Output, mask: Option<Register>, d: Register, a: Register, b: Register)
-    requires { out.old.count + 3 ≤ 3000 }
-    ensures count { out.new.count ≤ out.old.count + 3 }
-    ensures written { written out.new ≡ written out.old ++ straight (pick_group mask d a b) }
+// Behind a mask 25 gets what a register has.
+fn kept(out: &mut Output, mask: Option<Register>, from: Register)
+    requires { length out.old + 1 ≤ 3000 }
+    ensures { out.new ≡ out.old ++ straight (kept mask from) }
 {
-    match mask {
-        None => out.put(&[Op::Pick {
-            target: d,
-            condition: a,
-            from: b,
-        }]),
-        Some(m) => out.put(&[
-            Op::Set {
-                target: 25,
-                value: Value::Move { from: d },
-            },
-            Op::Pick {
-                target: 25,
-                condition: a,
-                from: b,
-            },
-            Op::Pick {
-                target: d,
-                condition: m,
-                from: 25,
-            },
-        ]),
+    if mask.is_some() {
+        out.put(&[Op::Set {
+            target: 25,
+            value: Value::Move { from },
+        }]);
     }
+}
+
+// A pick behind a mask is tried in 25, on what its target has.
+fn pick_group(
+    out: &mut Output,
+    mask: Option<Register>,
+    target: Register,
+    condition: Register,
+    from: Register,
+)
+    requires { length out.old + 3 ≤ 3000 }
+    ensures { out.new ≡ out.old ++ straight (pick_group mask target condition from) }
+{
+    kept(out, mask, target);
+    masked(
+        out,
+        mask,
+        target,
+        |target| Op::Pick {
+            target,
+            condition,
+            from,
+        },
+    );
 }
 
 // and x,x with the mask, where there is one.
 fn and_mask(out: &mut Output, mask: Option<Register>, x: Register)
-    requires { out.old.count + 1 ≤ 3000 }
-    ensures count { out.new.count ≤ out.old.count + 1 }
-    ensures written { written out.new ≡ written out.old ++ straight (and_mask mask x) }
+    requires { length out.old + 1 ≤ 3000 }
+    ensures { out.new ≡ out.old ++ straight (and_mask mask x) }
 {
-    match mask {
-        None => (),
-        Some(m) => out.put(&[Op::Set {
+    if let Some(mask) = mask {
+        out.put(&[Op::Set {
             target: x,
             value: Value::Binary {
                 op: BinaryOp::And,
                 left: x,
-                right: m,
+                right: mask,
             },
-        }]),
+        }]);
     }
 }
 
 // 25 tells whether the index is good, and 26 is the index or 0.
-fn in_range(out: &mut Output, cells: u16, a: Register)
-    requires { out.old.count + 4 ≤ 3000 }
-    ensures count { out.new.count ≡ out.old.count + 4 }
-    ensures written { written out.new ≡ written out.old ++ straight (in_range cells a) }
+fn in_range(out: &mut Output, cells: u16, index: Register)
+    requires { length out.old + 4 ≤ 3000 }
+    ensures { out.new ≡ out.old ++ straight (in_range cells index) }
 {
     out.put(&[
         Op::Set {
             target: 25,
-            value: Value::Const { word: cells as u32 },
+            value: Value::Const {
+                word: u32::from(cells),
+            },
         },
         Op::Set {
             target: 25,
             value: Value::Binary {
                 op: BinaryOp::Below,
-                left: a,
+                left: index,
                 right: 25,
             },
         },
@@ -103,16 +128,15 @@ fn in_range(out: &mut Output, cells: u16, a: Register)
         Op::Pick {
             target: 26,
             condition: 25,
-            from: a,
+            from: index,
         },
     ]);
 }
 
 // 27 tells that the index is bad and no bad one came before.
 fn first_bad(out: &mut Output)
-    requires { out.old.count + 4 ≤ 3000 }
-    ensures count { out.new.count ≡ out.old.count + 4 }
-    ensures written { written out.new ≡ written out.old ++ straight first_bad }
+    requires { length out.old + 4 ≤ 3000 }
+    ensures { out.new ≡ out.old ++ straight first_bad }
 {
     out.put(&[
         Op::Set {
@@ -146,28 +170,33 @@ fn first_bad(out: &mut Output)
     ]);
 }
 
-fn guard_start(out: &mut Output, cells: u16, a: Register)
-    requires { out.old.count + 8 ≤ 3000 }
-    ensures count { out.new.count ≡ out.old.count + 8 }
-    ensures written { written out.new ≡ written out.old ++ straight (guard_start cells a) }
+fn access_to(tables: &[Table; 8], table: u8, index: Register) -> Access
+    requires { table < 8 }
+    ensures table { result.table ≡ table }
+    ensures cells { result.cells ≡ lengths tables.now table }
+    ensures index { result.index ≡ index }
 {
-    in_range(out, cells, a);
-    first_bad(out);
+    Access {
+        table,
+        cells: tables[table as usize].length,
+        index,
+    }
 }
 
 // The beginning of a load or store: 24 keeps the first bad place.
-fn guard(out: &mut Output, mask: Option<Register>, cells: u16, place: usize, a: Register)
-    requires { (out.old.count + 11 ≤ 3000) × (place < 200) }
-    ensures count { out.new.count ≤ out.old.count + 11 }
-    ensures written { written out.new ≡ written out.old ++ straight (guard mask cells place a) }
+fn guard(out: &mut Output, site: Site, access: Access)
+    requires room { length out.old + 11 ≤ 3000 }
+    requires place { site.place < 200 }
+    ensures { out.new ≡ out.old ++ straight (guard site.mask access.cells site.place access.index) }
 {
-    guard_start(out, cells, a);
-    and_mask(out, mask, 27);
+    in_range(out, access.cells, access.index);
+    first_bad(out);
+    and_mask(out, site.mask, 27);
     out.put(&[
         Op::Set {
             target: 28,
             value: Value::Const {
-                word: place as u32 + 1,
+                word: site.place as u32 + 1,
             },
         },
         Op::Pick {
@@ -178,40 +207,35 @@ fn guard(out: &mut Output, mask: Option<Register>, cells: u16, place: usize, a: 
     ]);
 }
 
-// The load by the index in 26.
-fn load_end(out: &mut Output, mask: Option<Register>, d: Register, table: u8)
-    requires { out.old.count + 2 ≤ 3000 }
-    ensures count { out.new.count ≤ out.old.count + 2 }
-    ensures written { written out.new ≡ written out.old ++ straight (load_end mask d table) }
+// A load goes by the index in 26.
+fn load_group(out: &mut Output, site: Site, access: Access, target: Register)
+    requires room { length out.old + 15 ≤ 3000 }
+    requires place { site.place < 200 }
+    ensures { out.new ≡ out.old ++ straight (guard site.mask access.cells site.place access.index ++ load_end site.mask target access.table) }
 {
-    match mask {
-        None => out.put(&[Op::Load {
-            target: d,
+    guard(out, site, access);
+    let table = access.table;
+    masked(
+        out,
+        site.mask,
+        target,
+        |target| Op::Load {
+            target,
             index: 26,
             table,
-        }]),
-        Some(m) => out.put(&[
-            Op::Load {
-                target: 25,
-                index: 26,
-                table,
-            },
-            Op::Pick {
-                target: d,
-                condition: m,
-                from: 25,
-            },
-        ]),
-    }
+        },
+    );
 }
 
-// The store by the index in 26: where 25 is 0, the cell gets what it had.
-fn store_end(out: &mut Output, mask: Option<Register>, d: Register, table: u8)
-    requires { out.old.count + 4 ≤ 3000 }
-    ensures count { out.new.count ≤ out.old.count + 4 }
-    ensures written { written out.new ≡ written out.old ++ straight (store_end mask d table) }
+// A store goes by the index in 26: where 25 is 0, the cell gets what it had.
+fn store_group(out: &mut Output, site: Site, access: Access, from: Register)
+    requires room { length out.old + 15 ≤ 3000 }
+    requires place { site.place < 200 }
+    ensures { out.new ≡ out.old ++ straight (guard site.mask access.cells site.place access.index ++ store_end site.mask from access.table) }
 {
-    and_mask(out, mask, 25);
+    guard(out, site, access);
+    and_mask(out, site.mask, 25);
+    let table = access.table;
     out.put(&[
         Op::Load {
             target: 27,
@@ -221,7 +245,7 @@ fn store_end(out: &mut Output, mask: Option<Register>, d: Register, table: u8)
         Op::Pick {
             target: 27,
             condition: 25,
-            from: d,
+            from,
         },
         Op::Store {
             from: 27,
@@ -233,9 +257,8 @@ fn store_end(out: &mut Output, mask: Option<Register>, d: Register, table: u8)
 
 /// A secret if by register `a`, where `own` is the mask that it opens.
 pub fn if_group(out: &mut Output, mask: Option<Register>, own: Register, a: Register)
-    requires { out.old.count + 4 ≤ 3000 }
-    ensures count { out.new.count ≤ out.old.count + 4 }
-    ensures written { written out.new ≡ written out.old ++ straight (if_group mask own a) }
+    requires { length out.old + 4 ≤ 3000 }
+    ensures { out.new ≡ out.old ++ straight (if_group mask own a) }
 {
     out.put(&[
         Op::Set {
@@ -264,9 +287,8 @@ pub fn if_group(out: &mut Output, mask: Option<Register>, own: Register, a: Regi
 
 /// The else of a secret if.
 pub fn else_group(out: &mut Output, mask: Option<Register>, own: Register)
-    requires { out.old.count + 2 ≤ 3000 }
-    ensures count { out.new.count ≤ out.old.count + 2 }
-    ensures written { written out.new ≡ written out.old ++ straight (else_group mask own) }
+    requires { length out.old + 2 ≤ 3000 }
+    ensures { out.new ≡ out.old ++ straight (else_group mask own) }
 {
     match mask {
         None => out.put(&[
@@ -306,62 +328,29 @@ pub fn mask_at(secrets: u8) -> Option<Register>
     }
 }
 
-fn load_group(
-    out: &mut Output,
-    mask: Option<Register>,
-    cells: u16,
-    place: usize,
-    d: Register,
-    a: Register,
-    table: u8,
-)
-    requires { (out.old.count + 15 ≤ 3000) × (place < 200) }
-    ensures count { out.new.count ≤ out.old.count + 15 }
-    ensures written { written out.new ≡ written out.old ++ straight (guard mask cells place a ++ load_end mask d table) }
-{
-    guard(out, mask, cells, place, a);
-    load_end(out, mask, d, table)
-}
-
-fn store_group(
-    out: &mut Output,
-    mask: Option<Register>,
-    cells: u16,
-    place: usize,
-    d: Register,
-    a: Register,
-    table: u8,
-)
-    requires { (out.old.count + 15 ≤ 3000) × (place < 200) }
-    ensures count { out.new.count ≤ out.old.count + 15 }
-    ensures written { written out.new ≡ written out.old ++ straight (guard mask cells place a ++ store_end mask d table) }
-{
-    guard(out, mask, cells, place, a);
-    store_end(out, mask, d, table)
-}
-
 /// Writes what an op at a source place becomes.
-pub fn op_group(out: &mut Output, op: Op, mask: Option<Register>, place: usize, tables: &[Table; 8])
-    requires { (out.old.count + 15 ≤ 3000) × ((place < 200) × (bound_op 16 8 op ≡ true)) }
-    ensures count { out.new.count ≤ out.old.count + 15 }
-    ensures written { written out.new ≡ written out.old ++ straight (op_group (lengths tables.now) mask place op) }
+pub fn op_group(out: &mut Output, op: Op, site: Site, tables: &[Table; 8])
+    requires room { length out.old + 15 ≤ 3000 }
+    requires place { site.place < 200 }
+    requires bound { bound_op 16 8 op ≡ true }
+    ensures { out.new ≡ out.old ++ straight (op_group (lengths tables.now) site.mask site.place op) }
 {
     match op {
-        Op::Set { target: d, value } => set_group(out, mask, d, value),
+        Op::Set { target, value } => {
+            masked(out, site.mask, target, |target| Op::Set { target, value })
+        }
         Op::Pick {
-            target: d,
-            condition: a,
-            from: b,
-        } => pick_group(out, mask, d, a, b),
+            target,
+            condition,
+            from,
+        } => pick_group(out, site.mask, target, condition, from),
         Op::Load {
-            target: d,
-            index: a,
+            target,
+            index,
             table,
-        } => load_group(out, mask, tables[table as usize].length, place, d, a, table),
-        Op::Store {
-            from: d,
-            index: a,
-            table,
-        } => store_group(out, mask, tables[table as usize].length, place, d, a, table),
+        } => load_group(out, site, access_to(tables, table, index), target),
+        Op::Store { from, index, table } => {
+            store_group(out, site, access_to(tables, table, index), from)
+        }
     }
 }

@@ -1,56 +1,60 @@
 // The instructions written so far.
-ghost use Rattle.std.specs.Prelude.{◌≡◌, ℕ, ◌+◌, ◌<◌, ◌≤◌, [], ◌∷◌, ◌++◌, length, take};
+ghost use Rattle.std.specs.Prelude.{◌≡◌, ℕ, ◌+◌, ◌<◌, ◌≤◌, [], ◌∷◌, ◌++◌, length};
 ghost use Rattle.groups.specs.Groups.{straight};
 
+use arrayvec::ArrayVec;
 use instructions::{Instruction, Op};
+use std::marker::Model;
 
-/// The instructions written so far, from entry 0.
+/// The instructions written so far, which a contract sees as a list. They lie in the value itself,
+/// since nothing here allocates.
 #[derive(Drop)]
 pub struct Output {
-    pub cells: [Instruction; 3000],
-    pub count: usize,
-    ghost few: { count ≤ 3000 },
-    ghost room: { length cells ≡ 3000 },
+    instructions: ArrayVec<Instruction, 3000>,
 }
 
-fn copy_ops(cells: &mut [Instruction; 3000], from: usize, ops: &[Op])
-    requires { (from + length ops.now ≤ 3000) × (length cells.old ≡ 3000) }
-    ensures long { length cells.new ≡ 3000 }
-    ensures taken { take (from + length ops.now) cells.new ≡ take from cells.old ++ straight ops.now }
-{
-    for i in 0..ops.len() {
-        cells[from + i] = Instruction::Do { op: ops[i] };
-    }
+impl Model for Output {
+    ghost use Rattle.std.specs.Prelude.{List};
+    ghost use Rattle.instructions.specs.declared.Instruction.{Instruction};
+
+    ghost Value = { List Instruction };
+
+    ghost view = { λ a. a.instructions.items };
 }
 
 impl Output {
     /// Nothing is written yet.
     pub fn new() -> Output
-        ensures { result.count ≡ 0 }
+        ensures { result ≡ [] }
     {
         Output {
-            cells: [Instruction::End; 3000],
-            count: 0,
+            instructions: ArrayVec::new(),
         }
     }
 
     /// Writes one instruction.
     pub fn copy(&mut self, instruction: Instruction)
-        requires { self.old.count + 1 ≤ 3000 }
-        ensures count { self.new.count ≡ self.old.count + 1 }
-        ensures written { take self.new.count self.new.cells ≡ take self.old.count self.old.cells ++ (instruction ∷ []) }
+        requires { length self.old + 1 ≤ 3000 }
+        ensures { self.new ≡ self.old ++ instruction ∷ [] }
     {
-        self.cells[self.count] = instruction;
-        self.count += 1;
+        self.instructions.push(instruction);
     }
 
     /// Writes ops.
     pub fn put(&mut self, ops: &[Op])
-        requires { self.old.count + length ops.now ≤ 3000 }
-        ensures count { self.new.count ≡ self.old.count + length ops.now }
-        ensures written { take self.new.count self.new.cells ≡ take self.old.count self.old.cells ++ straight ops.now }
+        requires { length self.old + length ops.now ≤ 3000 }
+        ensures { self.new ≡ self.old ++ straight ops.now }
     {
-        copy_ops(&mut self.cells, self.count, ops);
-        self.count += ops.len();
+        for op in ops {
+            self.copy(Instruction::Do { op: *op });
+        }
+    }
+
+    /// What is written.
+    pub fn as_slice(&self) -> &[Instruction]
+        ensures value { result.now ≡ self.now }
+        ensures few { length self.now ≤ 3000 }
+    {
+        self.instructions.as_slice()
     }
 }

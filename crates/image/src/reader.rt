@@ -6,7 +6,7 @@ ghost use Rattle.header.specs.Layout.{header_at};
 ghost use Rattle.image.specs.Images.{instructions as instructions_of, fields_refusal, image_refusal};
 ghost use Rattle.image.specs.Reading.{Reads, Rewrites, Nests};
 
-use brackets::matcher::Matcher;
+use brackets::openings::Matcher;
 use fields::codec;
 use fields::fields::Fields;
 use fields::rows::Limits;
@@ -42,7 +42,7 @@ fn check_brackets(body: &[u8], n: usize) -> Result<(), Refusal>
 {
     let mut matcher = Matcher::new();
     for place in 0..n {
-        matcher.pass(codec::instruction(Fields::at(body, place)), place)?;
+        matcher.pass(codec::instruction(Fields::at(body, place)), place, ())?;
     }
     matcher.finish()
 }
