@@ -1,10 +1,13 @@
 // Bytes as pairs of hexadecimal digits, the high one first.
 #![tactic(auto)]
 
-ghost use Rattle.std.specs.Prelude.{◌≡◌, ℕ, List, IfOk, MatchBool};
+ghost use Rattle.std.specs.Prelude.{◌≡◌, ℕ, List, MatchResult};
 ghost use Rattle.hexadecimal.specs.Spelling.{digit_of, byte_of, Spells};
+ghost use Rattle.hexadecimal.specs.declared.DecodeError.TheVariants.{NotHexadecimal, OutOfMemory};
 
-use std::alloc::AllocError;
+use std::alloc::{AllocFailed, Global};
+use std::error::Error;
+use std::fmt;
 
 /// What a digit stands for; capital letters are no digits.
 pub fn digit(code: u8) -> Option<u8>
@@ -21,26 +24,48 @@ pub fn digit(code: u8) -> Option<u8>
 pub fn byte(high: u8, low: u8) -> Option<u8>
     ensures { result ≡ byte_of high low }
 {
-    match (digit(high), digit(low)) {
-        (Some(high), Some(low)) => Some(16 * high + low),
-        _ => None,
+    let high = digit(high)?;
+    let low = digit(low)?;
+    Some(16 * high + low)
+}
+
+/// Why a text gives no bytes.
+#[derive(Clone, Copy, Debug, PartialEq, Eq)]
+pub enum DecodeError {
+    /// The text spells no bytes.
+    NotHexadecimal,
+    OutOfMemory,
+}
+
+impl fmt::Display for DecodeError {
+    fn fmt<W: fmt::Write>(&self, f: &mut fmt::Formatter<W>) -> fmt::Result {
+        f.write_str(match self {
+            Self::NotHexadecimal => "not hexadecimal",
+            Self::OutOfMemory => "out of memory",
+        })
     }
 }
 
-/// Puts the bytes that a text spells into a list, in place of what it held. False where the text
-/// spells no bytes.
-pub fn decode(text: &[u8], out: &mut Vec<u8>) -> Result<bool, AllocError>
-    ensures { IfOk result (λ good. MatchBool good (Spells text.now out.new.items) ((bytes : List ℕ) → Spells text.now bytes → ⊥)) }
+impl Error for DecodeError {}
+
+impl<T: Drop> From<AllocFailed<T>> for DecodeError {
+    ghost from_gives = { λ full e. e ≡ OutOfMemory };
+
+    fn from(_full: AllocFailed<T>) -> DecodeError {
+        DecodeError::OutOfMemory
+    }
+}
+
+/// The bytes that a text spells.
+pub fn decode(heap: Global, text: &[u8]) -> Result<Vec<u8>, DecodeError>
+    ensures { MatchResult result (λ bytes. Spells text.now bytes.items) (λ e. e ≡ NotHexadecimal → (bytes : List ℕ) → Spells text.now bytes → ⊥) }
 {
-    out.clear();
-    if text.len() % 2 != 0 {
-        return Ok(false);
+    let (pairs, []) = text.as_chunks::<2>() else {
+        return Err(DecodeError::NotHexadecimal);
+    };
+    let mut bytes = Vec::new(heap);
+    for [high, low] in pairs {
+        bytes.push(byte(*high, *low).ok_or(DecodeError::NotHexadecimal)?)?;
     }
-    for i in 0..text.len() / 2 {
-        let Some(byte) = byte(text[2 * i], text[2 * i + 1]) else {
-            return Ok(false);
-        };
-        out.push(byte)?;
-    }
-    Ok(true)
+    Ok(bytes)
 }

@@ -5,14 +5,16 @@ ghost use Rattle.makes.specs.Begun.{Begun};
 
 use crate::built;
 use crate::make::{Kind, MOST, Make};
-use crate::words::words;
+use crate::words::{WordsError, words};
 use layered::layer::Layer;
 use layered::pile::{Layers, Pile};
-use std::alloc::{AllocError, Global};
+use std::alloc::Global;
+use std::error::Error;
 use std::fmt;
+use std::str::{FromStr, Split};
 
 /// Why there is no make for a name.
-#[derive(Clone, Copy)]
+#[derive(Clone, Copy, Debug, PartialEq, Eq)]
 pub enum Unnamed {
     Unreadable,
     TooManyLayers,
@@ -20,19 +22,20 @@ pub enum Unnamed {
 
 impl fmt::Display for Unnamed {
     fn fmt<W: fmt::Write>(&self, f: &mut fmt::Formatter<W>) -> fmt::Result {
-        match *self {
-            Unnamed::Unreadable => f.write_str("a memory that cannot be read"),
-            Unnamed::TooManyLayers => f.write_str("a pile of more than four layers"),
-        }
+        f.write_str(match self {
+            Unnamed::Unreadable => "a memory that cannot be read",
+            Unnamed::TooManyLayers => "a pile of more than four layers",
+        })
     }
 }
+
+impl Error for Unnamed {}
 
 // A number that a list may have as its length.
 fn length(text: &str) -> Option<usize>
     ensures { IfSome result (λ n. n ≤ 1000000) }
 {
-    let length = text.parse::<usize>().ok()?;
-    if length <= MOST { Some(length) } else { None }
+    text.parse::<usize>().ok().filter(|length| *length <= MOST)
 }
 
 fn layer(text: &str) -> Option<Layer> {
@@ -45,30 +48,25 @@ fn layer(text: &str) -> Option<Layer> {
     })
 }
 
-// Takes the next layer, if there is one, from the names that are left.
-fn next<'a>(names: Option<&'a str>) -> Option<(Option<Layer>, Option<&'a str>)> {
-    let Some(text) = names else {
-        return Some((None, None));
-    };
-    match text.split_once('+') {
-        Some((name, rest)) => Some((Some(layer(name)?), Some(rest))),
-        None => Some((Some(layer(text)?), None)),
-    }
+// The next layer, if a name is left.
+fn next(names: &mut Split<char>) -> Result<Option<Layer>, Unnamed> {
+    names
+        .next()
+        .map(|name| layer(name).ok_or(Unnamed::Unreadable))
+        .transpose()
 }
 
-// The first four layers, and whether there are more.
-fn layers(names: Option<&str>) -> Option<(Layers, bool)> {
-    let (first, rest) = next(names)?;
-    let (second, rest) = next(rest)?;
-    let (third, rest) = next(rest)?;
-    let (fourth, rest) = next(rest)?;
+fn layers(mut names: Split<char>) -> Result<Layers, Unnamed> {
     let layers = Layers {
-        first,
-        second,
-        third,
-        fourth,
+        first: next(&mut names)?,
+        second: next(&mut names)?,
+        third: next(&mut names)?,
+        fourth: next(&mut names)?,
     };
-    Some((layers, rest.is_some()))
+    match names.next() {
+        None => Ok(layers),
+        Some(_) => Err(Unnamed::TooManyLayers),
+    }
 }
 
 fn leaf(name: &str, layers: Layers) -> Option<Make> {
@@ -88,22 +86,14 @@ fn leaf(name: &str, layers: Layers) -> Option<Make> {
 }
 
 /// The make of a name. Lengths above 1,000,000 cannot be read.
-pub fn make(name: &str) -> Result<Make, Unnamed>
-    ensures { IfOk result (λ m. (m.size ≤ 1000000) × (m.list ≤ 1000000)) }
-{
-    let (bottom, rest) = match name.split_once('+') {
-        Some((bottom, rest)) => (bottom, Some(rest)),
-        None => (name, None),
-    };
-    let Some((layers, more)) = layers(rest) else {
-        return Err(Unnamed::Unreadable);
-    };
-    if more {
-        return Err(Unnamed::TooManyLayers);
-    }
-    match leaf(bottom, layers) {
-        Some(make) => Ok(make),
-        None => Err(Unnamed::Unreadable),
+impl FromStr for Make {
+    type Err = Unnamed;
+
+    fn from_str(name: &str) -> Result<Make, Unnamed> {
+        let mut names = name.split('+');
+        let bottom = names.next().unwrap_or("");
+        let layers = layers(names)?;
+        leaf(bottom, layers).ok_or(Unnamed::Unreadable)
     }
 }
 
@@ -115,13 +105,13 @@ fn takes(make: Make, words: usize) -> bool {
     }
 }
 
-/// The pile of a make, beginning with the words of a text; none where they cannot be read, or do not
-/// fit the make.
-pub fn pile(heap: Global, make: Make, cells: &str) -> Result<Option<Pile>, AllocError>
-    ensures { IfOk result (λ o. IfSome o (Begun make)) }
+/// The pile of a make, beginning with the words of a text.
+pub fn pile(heap: Global, make: Make, cells: &str) -> Result<Pile, WordsError>
+    ensures { IfOk result (Begun make) }
 {
-    match words(heap, cells)? {
-        Some(words) if takes(make, words.len()) => Ok(Some(built::build(heap, make, words)?)),
-        _ => Ok(None),
+    let words = words(heap, cells)?;
+    if !takes(make, words.len()) {
+        return Err(WordsError::Unreadable);
     }
+    Ok(built::build(heap, make, words)?)
 }

@@ -10,26 +10,21 @@ pub struct Words<'a> {
 
 // How many words there are up to the last that is not 0.
 fn counting(words: &[u32]) -> usize {
-    let mut count = 0;
-    for (place, word) in words.iter().enumerate() {
-        if *word != 0 {
-            count = place.saturating_add(1);
-        }
-    }
-    count
+    words
+        .iter()
+        .rposition(|word| *word != 0)
+        .map_or(0, |last| last + 1)
 }
 
 impl fmt::Display for Words<'_> {
     fn fmt<W: fmt::Write>(&self, f: &mut fmt::Formatter<W>) -> fmt::Result {
-        let count = counting(self.words);
-        if count == 0 {
+        let mut words = self.words.iter().take(counting(self.words));
+        let Some(first) = words.next() else {
             return f.write_str("-");
-        }
-        for (place, word) in self.words.iter().take(count).enumerate() {
-            if place > 0 {
-                f.write_str(",")?;
-            }
-            write!(f, "{word:x}")?;
+        };
+        write!(f, "{first:x}")?;
+        for word in words {
+            write!(f, ",{word:x}")?;
         }
         Ok(())
     }
@@ -43,17 +38,13 @@ pub struct Seen<'a, M> {
 
 impl<M: Memory> fmt::Display for Seen<'_, M> {
     fn fmt<W: fmt::Write>(&self, f: &mut fmt::Formatter<W>) -> fmt::Result {
-        let count = self.memory.marks();
-        if count == 0 {
+        let mut marks = (0..self.memory.marks()).filter_map(|j| self.memory.mark(j));
+        let Some(first) = marks.next() else {
             return f.write_str("-");
-        }
-        for j in 0..count {
-            if j > 0 {
-                f.write_str(",")?;
-            }
-            if let Some(mark) = self.memory.mark(j) {
-                write!(f, "{mark}")?;
-            }
+        };
+        write!(f, "{first}")?;
+        for mark in marks {
+            write!(f, ",{mark}")?;
         }
         Ok(())
     }

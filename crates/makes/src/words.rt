@@ -1,25 +1,69 @@
 // Lists of words as text.
-ghost use Rattle.std.specs.Prelude.{◌≤◌, IfSome, IfOk, vec_len};
+ghost use Rattle.std.specs.Prelude.{◌≡◌, ◌≤◌, IfOk, vec_len};
+ghost use Rattle.makes.specs.declared.words.WordsError.TheVariants.{Unreadable, OutOfMemory};
 
 use crate::make::MOST;
-use std::alloc::{AllocError, Global};
+use std::alloc::{AllocError, AllocFailed, Global};
+use std::error::Error;
+use std::fmt;
+use std::num::ParseIntError;
+
+/// Why nothing comes of a list of words.
+#[derive(Clone, Copy, Debug, PartialEq, Eq)]
+pub enum WordsError {
+    /// They cannot be read, or do not fit where they go.
+    Unreadable,
+    OutOfMemory,
+}
+
+impl fmt::Display for WordsError {
+    fn fmt<W: fmt::Write>(&self, f: &mut fmt::Formatter<W>) -> fmt::Result {
+        f.write_str(match self {
+            Self::Unreadable => "words that cannot be read",
+            Self::OutOfMemory => "out of memory",
+        })
+    }
+}
+
+impl Error for WordsError {}
+
+impl From<ParseIntError> for WordsError {
+    ghost from_gives = { λ number e. e ≡ Unreadable };
+
+    fn from(_number: ParseIntError) -> WordsError {
+        WordsError::Unreadable
+    }
+}
+
+impl From<AllocError> for WordsError {
+    ghost from_gives = { λ full e. e ≡ OutOfMemory };
+
+    fn from(_full: AllocError) -> WordsError {
+        WordsError::OutOfMemory
+    }
+}
+
+impl<T: Drop> From<AllocFailed<T>> for WordsError {
+    ghost from_gives = { λ full e. e ≡ OutOfMemory };
+
+    fn from(full: AllocFailed<T>) -> WordsError {
+        AllocError::from(full).into()
+    }
+}
 
 /// The words of a text, hexadecimal and separated by commas, `-` for none, at most 1,000,000.
-pub fn words(heap: Global, text: &str) -> Result<Option<Vec<u32>>, AllocError>
-    ensures { IfOk result (λ o. IfSome o (λ words. vec_len words ≤ 1000000)) }
+pub fn words(heap: Global, text: &str) -> Result<Vec<u32>, WordsError>
+    ensures { IfOk result (λ words. vec_len words ≤ 1000000) }
 {
     let mut words = Vec::new(heap);
     if text == "-" {
-        return Ok(Some(words));
+        return Ok(words);
     }
     for part in text.split(',') {
-        let Ok(word) = u32::from_str_radix(part, 16) else {
-            return Ok(None);
-        };
-        words.push(word)?;
+        words.push(u32::from_str_radix(part, 16)?)?;
         if words.len() > MOST {
-            return Ok(None);
+            return Err(WordsError::Unreadable);
         }
     }
-    Ok(Some(words))
+    Ok(words)
 }

@@ -4,11 +4,12 @@
 ghost use Rattle.std.specs.Prelude.{◌≡◌, ◌+◌, ◌-◌, ◌^◌, min, ◌++◌, if◌then◌else◌, Some, codes, decimal, ◌==◌};
 
 use std::fmt;
+use std::ops::AddAssign;
 
 pub mod report;
 
 /// Both numbers stop at the largest that there is.
-#[derive(Clone, Copy)]
+#[derive(Clone, Copy, Default)]
 pub struct Tally {
     pub agree: usize,
     pub all: usize,
@@ -19,7 +20,7 @@ impl Tally {
         ensures agree { result.agree ≡ 0 }
         ensures all { result.all ≡ 0 }
     {
-        Tally { agree: 0, all: 0 }
+        Tally::default()
     }
 
     /// Counts one more, that agrees or not.
@@ -27,17 +28,10 @@ impl Tally {
         ensures agree { self.new.agree ≡ min (self.old.agree + (if agrees then 1 else 0)) (2 ^ 64 - 1) }
         ensures all { self.new.all ≡ min (self.old.all + 1) (2 ^ 64 - 1) }
     {
-        let one = if agrees { 1 } else { 0 };
-        self.add(Tally { agree: one, all: 1 });
-    }
-
-    /// Counts all that another tally has counted.
-    pub fn add(&mut self, other: Tally)
-        ensures agree { self.new.agree ≡ min (self.old.agree + other.agree) (2 ^ 64 - 1) }
-        ensures all { self.new.all ≡ min (self.old.all + other.all) (2 ^ 64 - 1) }
-    {
-        self.agree = self.agree.saturating_add(other.agree);
-        self.all = self.all.saturating_add(other.all);
+        *self += Tally {
+            agree: usize::from(agrees),
+            all: 1,
+        };
     }
 
     /// Whether all agree.
@@ -45,6 +39,16 @@ impl Tally {
         ensures { result ≡ (self.agree == self.all) }
     {
         self.agree == self.all
+    }
+}
+
+/// Counts all that another tally has counted.
+impl AddAssign for Tally {
+    ghost add_assign_gives = { λ before other after. (after.agree ≡ min (before.agree + other.agree) (2 ^ 64 - 1)) × (after.all ≡ min (before.all + other.all) (2 ^ 64 - 1)) };
+
+    fn add_assign(&mut self, other: Tally) {
+        self.agree = self.agree.saturating_add(other.agree);
+        self.all = self.all.saturating_add(other.all);
     }
 }
 

@@ -21,7 +21,7 @@ impl Report {
         ensures notes { result.notes.items ≡ [] }
     {
         Report {
-            tally: Tally::new(),
+            tally: Tally::default(),
             notes: Vec::new(heap),
         }
     }

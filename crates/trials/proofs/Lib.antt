@@ -1,3 +1,2 @@
 pub mod Judging
 pub mod Writing
-pub mod Giving

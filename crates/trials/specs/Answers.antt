@@ -1,5 +1,6 @@
 -- What trials answer.
-use Rattle.std.specs.Prelude.{ℕ, Bool, true, cond, ◌&&◌, List, [], ◌∷◌, length, take, drop, Some, None, Ok, Err, Option, Result, ◌==◌, nat_lt}
+use Rattle.std.specs.Prelude.{ℕ, Bool, cond, List, length, take, drop, Some, None, Ok, Err, Option, Result, ◌==◌, nat_lt}
+use Rattle.std.specs.List.{list_all}
 use Rattle.std.specs.Str.{bytes_eq}
 use Rattle.program.specs.declared.refusal.Refusal.{Refusal}
 use Rattle.program.specs.declared.refusal.Reason.TheVariants.{NoRoomForImage}
@@ -30,8 +31,7 @@ write_answer bs room = unless_refused (read_refusal bs (longest Converted)) (byt
 
 -- no byte differs from the filler
 abbrev pub untouched : List ℕ → Bool
-untouched [] = true
-untouched (b ∷ bs) = b == 165 && untouched bs
+untouched = list_all (λ b. b == 165)
 
 -- of writing an image, by what the byte list then holds
 abbrev pub judged : Result ℕ Refusal → List ℕ → List ℕ → Answer

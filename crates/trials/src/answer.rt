@@ -30,33 +30,23 @@ pub fn judge(answer: Result<usize, Refusal>, out: &[u8], image: &[u8]) -> Answer
             let (front, behind) = out.split_at(length.min(out.len()));
             judge_parts(length, front == image, is_untouched(behind))
         }
-        Err(refusal) => if is_untouched(out) {
-            Answer::Refused { refusal }
-        } else {
-            Answer::Disturbed
-        },
+        Err(refusal) if is_untouched(out) => Answer::Refused { refusal },
+        Err(_) => Answer::Disturbed,
     }
 }
 
 fn judge_parts(length: usize, same: bool, stayed: bool) -> Answer
     ensures { result ≡ (if stayed then (if same then Written length else OtherBytes) else Disturbed) }
 {
-    if !stayed {
-        Answer::Disturbed
-    } else if same {
-        Answer::Written { length }
-    } else {
-        Answer::OtherBytes
+    match (stayed, same) {
+        (true, true) => Answer::Written { length },
+        (true, false) => Answer::OtherBytes,
+        (false, _) => Answer::Disturbed,
     }
 }
 
 fn is_untouched(bytes: &[u8]) -> bool
     ensures { result ≡ untouched bytes.now }
 {
-    for byte in bytes {
-        if *byte != UNTOUCHED {
-            return false;
-        }
-    }
-    true
+    bytes.iter().all(|byte| *byte == UNTOUCHED)
 }

@@ -1,5 +1,6 @@
-// The lists that images are tried in, used again from trial to trial.
-ghost use Rattle.std.specs.Prelude.{◌≡◌, ℕ, List, [], length, replicate, IfOk, MatchBool};
+// The image that is tried, and the lists that it is read and written in, used again from trial to trial.
+ghost use Rattle.std.specs.Prelude.{◌≡◌, ℕ, List, [], length, replicate, IfOk, OnErr, MatchResult};
+ghost use Rattle.hexadecimal.specs.declared.DecodeError.TheVariants.{NotHexadecimal};
 ghost use Rattle.trials.specs.Given.{Gives};
 ghost use Rattle.image.specs.Images.{image_of};
 ghost use Rattle.image.specs.Reading.{code_in};
@@ -8,6 +9,7 @@ ghost use Rattle.trials.specs.Tried.{Tried};
 
 use crate::answer;
 use crate::answer::Answer;
+use hexadecimal::DecodeError;
 use image::{reader, writer};
 use instructions::Instruction;
 use program::handed_back::HandedBack;
@@ -38,15 +40,17 @@ impl Room {
         }
     }
 
-    /// Takes the image that a text spells, `-` for no bytes; false where it spells none.
-    pub fn take_image(&mut self, text: &str) -> Result<bool, AllocError>
-        ensures { IfOk result (λ good. MatchBool good (Gives text.now self.new.image.items) ((bytes : List ℕ) → Gives text.now bytes → ⊥)) }
+    /// Takes the image that a text spells, `-` for no bytes. An error leaves the last one.
+    pub fn take_image(&mut self, text: &str) -> Result<(), DecodeError>
+        ensures answer { MatchResult result (λ taken. Gives text.now self.new.image.items) (λ e. e ≡ NotHexadecimal → (bytes : List ℕ) → Gives text.now bytes → ⊥) }
+        ensures err { OnErr result (self.new.image ≡ self.old.image) }
     {
         if text == "-" {
             self.image.clear();
-            return Ok(true);
+            return Ok(());
         }
-        hexadecimal::decode(text.as_bytes(), &mut self.image)
+        self.image = hexadecimal::decode(self.heap, text.as_bytes())?;
+        Ok(())
     }
 
     /// Reads the image into an instruction list of this length.
