@@ -1,4 +1,7 @@
 pub mod Choosing
+pub mod Chunks
+pub mod Fronts
+pub mod Numbers
 pub mod Parts
 pub mod Written
 pub mod Refusing

@@ -8,11 +8,11 @@ use Rattle.program.specs.declared.header.Header.{Header}
 use Rattle.program.specs.declared.header.Table.{Table}
 use Rattle.program.specs.declared.header.Kind.{Kind}
 use Rattle.program.specs.declared.header.Kind.TheVariants.{Source, Converted}
-use Rattle.program.specs.Headers.{longest, no_table, table_fits, cells_of}
+use Rattle.program.specs.Headers.{kind_of, kind_code, longest, no_table, table_fits, cells_of}
 use Rattle.program.specs.Firsts.{all_below}
 use Rattle.program.specs.Sound.{SoundHeader}
 use Rattle.program.proofs.Firsts.{all_true}
-use Rattle.header.specs.Layout.{pair_at, kind_of, kind_code, table_at, tables_at, header_at, entry_good, zero_from40, header_good, start_bytes, entry_bytes, header_bytes}
+use Rattle.header.specs.Layout.{pair_at, table_at, tables_at, header_at, entry_good, zero_from40, header_good, start_bytes, entry_bytes, header_bytes}
 use Rattle.header.proofs.Written.{length_start, length_entry, length_front, length_header}
 
 -- byte j of item k, each item w bytes long

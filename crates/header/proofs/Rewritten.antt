@@ -4,11 +4,11 @@ use Rattle.std.specs.List.{range_with_len, flat_map}
 use Rattle.std.proofs.lemmas.List.FromFn.{fill_by_all, map-range_with_len_more, length-map-range_with_len, get_or-map-range_with_len}
 use Rattle.std.proofs.lemmas.List.{length-take-le, drop-drop, flat_map_more}
 use Rattle.std.proofs.lemmas.Bool.{and_parts, eqb-true, leb-true}
-use Rattle.program.specs.Headers.{longest, no_table, table_fits, cells_of}
+use Rattle.program.specs.Headers.{kind_of, kind_code, longest, no_table, table_fits, cells_of}
 use Rattle.program.specs.Firsts.{all_below}
 use Rattle.program.specs.Sound.{SoundHeader}
 use Rattle.program.proofs.Firsts.{all_tells}
-use Rattle.header.specs.Layout.{pair_at, kind_of, kind_code, table_at, tables_at, header_at, entry_good, zero_from40, header_good, start_bytes, entry_bytes, header_bytes}
+use Rattle.header.specs.Layout.{pair_at, table_at, tables_at, header_at, entry_good, zero_from40, header_good, start_bytes, entry_bytes, header_bytes}
 
 -- each is a byte
 abbrev pub Bytes : List ℕ → Type 0

@@ -1,10 +1,12 @@
 -- A header that was written.
-use Rattle.std.proofs.Common.{◌≡◌, ℕ, ◌+◌, ◌*◌, List, ◌++◌, length, take, drop, replicate, refl, ap, ◌∙◌, arith, length-append}
+use Rattle.std.proofs.Common.{◌≡◌, ℕ, List, ◌++◌, length, drop, replicate, refl, ◌∙◌, sym, arith, length-append}
+use borrow.Rule.Slice.PartMut.{put_mid}
 use Rattle.std.specs.List.{flat_map}
+use Rattle.std.proofs.lemmas.List.{take_at, drop_at, append_assoc}
 use Rattle.program.specs.declared.header.Header.{Header}
 use Rattle.program.specs.declared.header.Table.{Table}
 use Rattle.header.specs.Layout.{start_bytes, entry_bytes, header_bytes}
-use Rattle.header.proofs.Parts.{length_joined, chain}
+use Rattle.header.proofs.Parts.{length_joined}
 
 pub length_start : (h : Header) → length (start_bytes h) ≡ 8
 unfolding start_bytes
@@ -22,11 +24,11 @@ module _ (h : Header) (eight : length h.tables ≡ 8) where
   unfolding header_bytes
   length_header = omega (arith, length-append (start_bytes h ++ flat_map entry_bytes h.tables) (replicate 24 0), length_front)
 
-  pub header_written : (e out₁ out₂ out₃ : List ℕ) → out₁ ≡ start_bytes h ++ drop 8 e → out₂ ≡ (take 8 out₁ ++ flat_map entry_bytes h.tables) ++ drop (8 + 4 * length h.tables) out₁ → out₃ ≡ (take 40 out₂ ++ replicate 24 0) ++ drop 64 out₂ → out₃ ≡ header_bytes h ++ drop 64 e
-  unfolding header_bytes
-  header_written e out₁ out₂ out₃ s₁ s₂ s₃ =
-      let end : 8 + 4 * length h.tables ≡ 40 = omega arith in
-      let t₂ : out₂ ≡ (start_bytes h ++ flat_map entry_bytes h.tables) ++ drop 40 e =
-      chain (start_bytes h) (flat_map entry_bytes h.tables) e out₁ out₂ 8 (8 + 4 * length h.tables) (length_start h) (omega arith) s₁ s₂
-      ∙ ap (λ n. (start_bytes h ++ flat_map entry_bytes h.tables) ++ drop n e) end in
-      chain (start_bytes h ++ flat_map entry_bytes h.tables) (replicate 24 0) e out₂ out₃ 40 64 length_front (omega arith) t₂ s₃
+-- the first values and the entries over 64 zero bytes
+pub header_written : (h : Header) (start entries : List ℕ) → start ≡ start_bytes h → entries ≡ flat_map entry_bytes h.tables → put_mid 8 32 (start ++ replicate 56 0) entries ≡ header_bytes h
+unfolding header_bytes
+header_written h start entries s e =
+    let zeros = replicate 56 0 in
+    (λ t. put_mid 8 32 (s t ++ zeros) (e t))
+    ∙ (λ t. take_at (start_bytes h) zeros 8 (length_start h) t ++ (flat_map entry_bytes h.tables ++ drop 32 (drop_at (start_bytes h) zeros 8 (length_start h) t)))
+    ∙ sym (append_assoc (start_bytes h) (flat_map entry_bytes h.tables) (drop 32 zeros))

@@ -2,21 +2,24 @@
 use Rattle.std.specs.Prelude.{ℕ, ◌+◌, ◌*◌, ◌/◌, ◌%◌, Bool, cond, ◌&&◌, List, [], ◌∷◌, ◌++◌, map, length, replicate, Option, ◌==◌, nat_le, nat_lt, slice_index}
 use Rattle.std.specs.List.{range_with_len, flat_map}
 use Rattle.program.specs.declared.header.Header.{Header}
-use Rattle.program.specs.declared.header.Kind.{Kind}
-use Rattle.program.specs.declared.header.Kind.TheVariants.{Source, Converted}
 use Rattle.program.specs.declared.header.Table.{Table}
 use Rattle.program.specs.declared.refusal.Refusal.{Refusal}
 use Rattle.program.specs.declared.refusal.Reason.TheVariants.{NoHeader, BadHeader, BadLength}
 use Rattle.program.specs.Refusals.{unless, or_else}
-use Rattle.program.specs.Headers.{longest, table_fits, cells_of}
+use Rattle.program.specs.Headers.{kind_of, kind_code, longest, table_fits, cells_of}
 use Rattle.program.specs.Firsts.{all_below}
 
 -- the number in two bytes, low byte first
 abbrev pub pair_at : List ℕ → ℕ → ℕ
 pair_at bs i = slice_index bs i + slice_index bs (i + 1) * 256
 
-abbrev pub kind_of : ℕ → Kind
-kind_of code = cond (code == 0) Source Converted
+-- the table of an entry: length, label
+abbrev pub table_of : List ℕ → Table
+table_of e = record { length = pair_at e 0; secret = (slice_index e 2 == 1) }
+
+-- an entry has the label 0 or 1, a zero byte, and a length that fits its use
+abbrev pub entry_fits : List ℕ → Bool → Bool
+entry_fits e used = nat_le (slice_index e 2) 1 && (slice_index e 3 == 0 && table_fits (table_of e) used)
 
 -- table entry i: length, label
 abbrev pub table_at : List ℕ → ℕ → Table
@@ -55,10 +58,6 @@ header_refusal bs =
     or_else (unless (nat_le 64 (length bs)) NoHeader 0)
     (or_else (unless (header_good bs) BadHeader 0)
     (unless (length bs == 64 + 8 * pair_at bs 4) BadLength 0))
-
-abbrev pub kind_code : Kind → ℕ
-kind_code Source = 0
-kind_code Converted = 1
 
 abbrev pub entry_bytes : Table → List ℕ
 entry_bytes t = t.length % 256 ∷ t.length / 256 % 256 ∷ cond t.secret 1 0 ∷ 0 ∷ []

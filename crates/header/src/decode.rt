@@ -1,130 +1,96 @@
 // From bytes to a header.
-ghost use Rattle.std.specs.Prelude.{◌≡◌, ◌+◌, ◌*◌, ◌<◌, ◌≤◌, length, IfOk, if◌then◌else◌, Some, None, nat_le};
-ghost use Rattle.program.specs.Headers.{table_fits, cells_of};
+ghost use Rattle.std.specs.Prelude.{◌≡◌, ◌+◌, ◌*◌, ◌≤◌, length, take, drop, IfOk, if◌then◌else◌, Some, None};
+ghost use Rattle.std.specs.Simd.{first_chunks};
+ghost use Rattle.program.specs.Headers.{table_fits};
 ghost use Rattle.program.specs.Firsts.{all_below};
 ghost use Rattle.program.specs.Refusals.{refused_by};
-ghost use Rattle.header.specs.Layout.{kind_of, table_at, tables_at, header_at, entry_good, zero_from40, header_good, header_refusal};
+ghost use Rattle.header.specs.Layout.{table_of, entry_fits, tables_at, header_at, entry_good, zero_from40, header_good, header_refusal};
 
 use program::header::{Header, Kind, Table};
 use program::refusal::{Reason, Refusal};
 
-const HEADER: usize = 64;
-
 const MOST_TABLES: u8 = 8;
 
 const MOST_CELLS: u32 = 4096;
-
-fn kind_of(code: u8) -> Option<Kind>
-    ensures { result ≡ (if nat_le code 1 then Some (kind_of code) else None) }
-{
-    match code {
-        0 => Some(Kind::Source),
-        1 => Some(Kind::Converted),
-        _ => None,
-    }
-}
 
 // A table that is used has 1 to 1,024 cells; an entry that is not used is empty.
 fn fits(table: Table, used: bool) -> bool
     ensures { result ≡ table_fits table used }
 {
     if used {
-        1 <= table.length && table.length <= 1024
+        (1..=1024).contains(&table.length)
     } else {
         table.length == 0 && !table.secret
     }
 }
 
-// Table `i`, if its entry is good.
-fn table(image: &[u8], i: usize, used: u8) -> Option<Table>
-    requires { (64 ≤ length image.now) × (i < 8) }
-    ensures { result ≡ (if entry_good image.now used i then Some (table_at image.now i) else None) }
+// The table of an entry, if the entry is good.
+fn table(entry: [u8; 4], used: bool) -> Option<Table>
+    ensures { result ≡ (if entry_fits entry used then Some (table_of entry) else None) }
 {
-    let at = 8 + 4 * i;
-    let length = u16::from_le_bytes([image[at], image[at + 1]]);
+    let [low, high, label, last] = entry;
     let table = Table {
-        length,
-        secret: image[at + 2] == 1,
+        length: u16::from_le_bytes([low, high]),
+        secret: label == 1,
     };
-    if image[at + 2] <= 1 && image[at + 3] == 0 && fits(table, i < used as usize) {
+    if label <= 1 && last == 0 && fits(table, used) {
         Some(table)
     } else {
         None
     }
 }
 
-fn tables(image: &[u8], used: u8) -> Option<[Table; 8]>
-    requires { 64 ≤ length image.now }
-    ensures { result ≡ (if all_below (entry_good image.now used) 8 then Some (tables_at image.now) else None) }
+// The eight table entries, if they are good.
+fn tables(bytes: &[u8; 64], used: u8) -> Option<[Table; 8]>
+    ensures { result ≡ (if all_below (entry_good bytes.now used) 8 then Some (tables_at bytes.now) else None) }
 {
-    let mut tables = [Table {
-        length: 0,
-        secret: false,
-    }; 8];
-    for i in 0..8 {
-        let Some(table) = table(image, i, used) else {
-            return None;
-        };
-        tables[i] = table;
+    let mut tables = [Table::UNUSED; 8];
+    let (entries, _) = bytes[8..40].as_chunks::<4>();
+    for (i, entry) in entries.iter().enumerate() {
+        tables[i] = table(*entry, i < usize::from(used))?;
     }
     Some(tables)
 }
 
-fn cells(tables: &[Table]) -> u32
-    requires { length tables.now ≤ 8 }
-    ensures { result ≡ cells_of tables.now }
-{
-    let mut sum = 0u32;
-    for table in tables {
-        sum += table.length as u32;
-    }
-    sum
-}
-
 // Bytes 40 to 63 are zero.
-fn rest_is_zero(image: &[u8]) -> bool
-    requires { 64 ≤ length image.now }
-    ensures { result ≡ all_below (zero_from40 image.now) 24 }
+fn rest_is_zero(bytes: &[u8; 64]) -> bool
+    ensures { result ≡ all_below (zero_from40 bytes.now) 24 }
 {
-    for i in 0..24 {
-        if image[40 + i] != 0 {
-            return false;
-        }
-    }
-    true
+    bytes[40..].iter().all(|byte| *byte == 0)
 }
 
 // The header, if all its bytes are good.
-fn header(image: &[u8]) -> Option<Header>
-    requires { 64 ≤ length image.now }
-    ensures { result ≡ (if header_good image.now then Some (header_at image.now) else None) }
+fn header(bytes: &[u8; 64]) -> Option<Header>
+    ensures { result ≡ (if header_good bytes.now then Some (header_at bytes.now) else None) }
 {
-    let used = image[2];
-    if image[0] != 1 || image[1] != 0 || used > MOST_TABLES {
-        return None;
-    }
-    let Some(kind) = kind_of(image[3]) else {
+    let [
+        1,
+        0,
+        used,
+        number,
+        count_low,
+        count_high,
+        secret_low,
+        secret_high,
+        ..
+    ] = *bytes
+    else {
         return None;
     };
-    let Some(tables) = tables(image, used) else {
+    if used > MOST_TABLES {
         return None;
+    }
+    let header = Header {
+        kind: Kind::try_from(number).ok()?,
+        tables: tables(bytes, used)?,
+        used,
+        count: u16::from_le_bytes([count_low, count_high]),
+        secret_entry: u16::from_le_bytes([secret_low, secret_high]),
     };
-    let count = u16::from_le_bytes([image[4], image[5]]);
-    let secret_entry = u16::from_le_bytes([image[6], image[7]]);
-    if count > kind.longest() || cells(&tables) > MOST_CELLS {
+    if header.count > header.kind.longest() || header.first_cell(8) > MOST_CELLS {
         return None;
     }
-    if rest_is_zero(image) {
-        Some(Header {
-            kind,
-            tables,
-            used,
-            count,
-            secret_entry,
-        })
-    } else {
-        None
-    }
+    rest_is_zero(bytes).then_some(header)
 }
 
 /// The header of an image as long as its header says.
@@ -132,23 +98,10 @@ pub fn decode(image: &[u8]) -> Result<Header, Refusal>
     ensures refusal { refused_by result ≡ header_refusal image.now }
     ensures value { IfOk result (λ h. (h ≡ header_at image.now) × (length image.now ≡ 64 + 8 * h.count)) }
 {
-    if image.len() < HEADER {
-        return Err(Refusal {
-            reason: Reason::NoHeader,
-            place: 0,
-        });
-    }
-    let Some(header) = header(image) else {
-        return Err(Refusal {
-            reason: Reason::BadHeader,
-            place: 0,
-        });
-    };
-    if image.len() != HEADER + 8 * header.count as usize {
-        return Err(Refusal {
-            reason: Reason::BadLength,
-            place: 0,
-        });
+    let (bytes, code) = image.split_first_chunk::<64>().ok_or(Reason::NoHeader)?;
+    let header = header(bytes).ok_or(Reason::BadHeader)?;
+    if code.len() != 8 * usize::from(header.count) {
+        return Err(Reason::BadLength.into());
     }
     Ok(header)
 }

@@ -1,35 +1,17 @@
 -- What reading answers, from its parts.
-use Rattle.std.proofs.Common.{◌≡◌, ℕ, ◌+◌, ◌*◌, ◌<◌, ◌≤◌, leb, List, ◌++◌, length, take, drop, Some, None, sym, ap, ◌∙◌, subst, arith, length-append}
+use Rattle.std.proofs.Common.{◌≡◌, ℕ, ◌+◌, ◌*◌, ◌≤◌, List, ◌++◌, length, take, drop, None, sym, ap, ◌∙◌, subst, arith, length-append}
 use Rattle.std.proofs.lemmas.List.FromFn.{length-map-range_with_len}
 use Rattle.std.proofs.lemmas.List.{take_at}
-use Rattle.std.proofs.lemmas.Bool.{lt-leb, le-leb}
 use Rattle.instructions.specs.declared.Instruction.{Instruction}
 use Rattle.program.specs.declared.header.Header.{Header}
-use Rattle.program.specs.declared.refusal.Reason.TheVariants.{NoRoomForCode}
-use Rattle.program.specs.declared.refusal.Refusal.{Refusal}
-use Rattle.program.specs.Refusals.{refusal, unless, or_else}
 use Rattle.program.specs.Blocks.{Nested}
 use Rattle.program.specs.Sound.{SoundHeader, SoundList}
 use Rattle.header.specs.Layout.{header_at}
 use Rattle.header.proofs.Rewritten.{Bytes, header_sound}
 use Rattle.brackets.proofs.Nesting.{paired_is_nested}
-use Rattle.image.specs.Images.{instruction_at, instructions, code_of, image_refusal, read_refusal, image_of}
+use Rattle.image.specs.Images.{instruction_at, instructions, code_of, image_refusal, image_of}
 use Rattle.image.proofs.Sounding.{SoundCode, as_list}
 use Rattle.image.proofs.Answering.{header_good_lem, code_sound, image_rewritten, brackets_passed}
-
-module _ (bs : List ℕ) (room : ℕ) where
-  pub refused_anyway : (e : Refusal) → Some e ≡ image_refusal bs → read_refusal bs room ≡ Some e
-  refused_anyway e r = ap (λ x. or_else x (unless (leb (header_at bs).count room) NoRoomForCode (header_at bs).count)) (sym r)
-
-  module _ (h : Header) (is : h ≡ header_at bs) (none : None ≡ image_refusal bs) where
-    at_room : read_refusal bs room ≡ unless (leb h.count room) NoRoomForCode h.count
-    at_room = sym (λ t. or_else (none t) (unless (leb (is t).count room) NoRoomForCode (is t).count))
-
-    pub no_room : room < h.count → read_refusal bs room ≡ Some (refusal NoRoomForCode h.count)
-    no_room l = at_room ∙ ap (λ b. unless b NoRoomForCode h.count) (lt-leb h.count room l)
-
-    pub has_room : h.count ≤ room → read_refusal bs room ≡ None
-    has_room l = at_room ∙ ap (λ b. unless b NoRoomForCode h.count) (le-leb h.count room l)
 
 module _ (bs : List ℕ) (h : Header) (is : h ≡ header_at bs) (none : None ≡ image_refusal bs) where
   pub sound_header : Bytes bs → SoundHeader h

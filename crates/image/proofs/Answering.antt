@@ -22,7 +22,7 @@ use Rattle.fields.proofs.Trips.{encode_decode, same_bounds}
 use Rattle.header.specs.Layout.{header_at, header_good, header_refusal}
 use Rattle.header.proofs.Rewritten.{Bytes, header_rewritten}
 use Rattle.brackets.proofs.Nesting.{paired_is_nested}
-use Rattle.image.specs.Images.{limits_of, instruction_at, instructions, code_of, fields_good, fields_refusal, image_refusal, image_of}
+use Rattle.image.specs.Images.{limits_of, instruction_at, instructions, code_of, fields_good, fields_refusal, image_refusal, read_refusal, image_of}
 use Rattle.image.proofs.Sounding.{SoundCode}
 use Rattle.image.proofs.Trips.{code_rewritten}
 
@@ -139,17 +139,16 @@ refuted : (b : Bool) → b ≡ false → b ≡ true → ⊥
 refuted b p q = let z : ◌≡◌ {A = ℕ} 0 1 = cc in omega arith
 
 -- instructions whose brackets are refused are not nested blocks written out
-pub not_nested : (bs : List ℕ) (r : Refusal) → Some r ≡ image_refusal bs → (r.reason ≡ BadBracket) ⊎ (r.reason ≡ TooDeep) → Nested (code_of bs) → ⊥
-not_nested bs r e why nested =
-    let other : Other (Some r) = subst Other (sym e) (no_brackets bs ((paired_is_nested (code_of bs)).1 nested)) in
+pub not_nested : (bs : List ℕ) (room : ℕ) (r : Refusal) → Some r ≡ read_refusal bs room → (r.reason ≡ BadBracket) ⊎ (r.reason ≡ TooDeep) → Nested (code_of bs) → ⊥
+not_nested bs room r e why nested =
+    let image : Other (image_refusal bs) = no_brackets bs ((paired_is_nested (code_of bs)).1 nested) in
+    let all : Other (read_refusal bs room) = other_else (image_refusal bs) _ image (other_unless _ NoRoomForCode (header_at bs).count refl) in
+    let other : Other (Some r) = subst Other (sym e) all in
     ⊎_elim
     (λ (x : r.reason ≡ BadBracket). refuted (of_brackets r.reason) other (ap of_brackets x))
     (λ (x : r.reason ≡ TooDeep). refuted (of_brackets r.reason) other (ap of_brackets x))
     why
 
-pub room_not_brackets : (NoRoomForCode ≡ BadBracket) ⊎ (NoRoomForCode ≡ TooDeep) → ⊥
-room_not_brackets why =
-    ⊎_elim
-    (λ (x : NoRoomForCode ≡ BadBracket). refuted (of_brackets NoRoomForCode) refl (ap of_brackets x))
-    (λ (x : NoRoomForCode ≡ TooDeep). refuted (of_brackets NoRoomForCode) refl (ap of_brackets x))
-    why
+-- what is read was not refused as an image
+pub image_passed : (bs : List ℕ) (room : ℕ) → None ≡ read_refusal bs room → None ≡ image_refusal bs
+image_passed bs room none = sym (both (image_refusal bs) _ (sym none)).0

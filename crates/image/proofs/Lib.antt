@@ -1,4 +1,5 @@
 pub mod Loops
+pub mod Chunked
 pub mod Trips
 pub mod Answering
 pub mod Accepting

@@ -1,5 +1,6 @@
 -- What writing leaves, and how it is read.
 use Rattle.std.proofs.Common.{◌≡◌, ℕ, ◌+◌, ◌*◌, ◌^◌, ◌<◌, ◌≤◌, true, false, eqb, leb, List, [], ◌++◌, length, get_or, take, drop, is_some, Some, None, Ok, vec_items, Option, sym, refl, ap, ◌∙◌, subst, arith, length-append}
+use borrow.Rule.Slice.PartMut.{put_mid}
 use Rattle.std.proofs.lemmas.List.{take_at, drop_at}
 use Rattle.std.proofs.lemmas.Bool.{le-leb, eq-eqb, cond-false, le-ltb}
 use Rattle.instructions.specs.declared.Instruction.{Instruction}
@@ -17,7 +18,7 @@ use Rattle.fields.specs.Rows.{admitted}
 use Rattle.fields.specs.Codec.{encode}
 use Rattle.fields.proofs.Trips.{same_bounds}
 use Rattle.header.specs.Layout.{header_at, header_good, header_bytes, header_refusal, pair_at}
-use Rattle.header.proofs.Parts.{length_joined, chain}
+use Rattle.header.proofs.Parts.{length_joined, part_more}
 use Rattle.header.proofs.Written.{length_header}
 use Rattle.header.proofs.Reread.{header_reread, header_good_lem, count_at}
 use Rattle.image.specs.Images.{limits_of, instructions, code_of, fields_good, fields_refusal, image_refusal, instruction_bytes, code_bytes, image_of, image_length}
@@ -80,18 +81,18 @@ pub answered : (p : Program) (room : ℕ) → image_length p.header ≤ room →
 answered p room le = sym (cond-false _ _ _ (le-ltb room (image_length p.header) le))
 
 -- the header, and then the code
-pub bytes_are : (p : Program) (code : List Instruction) (e out after : List ℕ) → code ≡ code_in p → out ≡ header_bytes p.header ++ drop 64 e → after ≡ (take 64 out ++ code_bytes code) ++ drop (64 + 8 * length code) out → after ≡ image_of p.header (code_in p) ++ drop (image_length p.header) e
-bytes_are p code e out after is first then =
-    let n : length code ≡ p.header.count = ap length is ∙ (code_of_lem p).long in
-    chain (header_bytes p.header) (code_bytes code) e out after 64 (64 + 8 * length code) (length_header p.header p.eight) (omega arith) first then
-    ∙ (λ t. (header_bytes p.header ++ code_bytes (is t)) ++ drop (64 + 8 * n t) e)
+pub bytes_are : (p : Program) (code : List Instruction) (e front body : List ℕ) (k : ℕ) → code ≡ code_in p → front ≡ header_bytes p.header → body ≡ code_bytes code → k ≡ 8 * p.header.count → put_mid 64 k (front ++ drop 64 e) body ≡ image_of p.header (code_in p) ++ drop (image_length p.header) e
+bytes_are p code e front body k is first then size =
+    let body_is = then ∙ ap code_bytes is in
+    (λ t. put_mid 64 (size t) (first t ++ drop 64 e) (body_is t))
+    ∙ part_more (header_bytes p.header) e (code_bytes (code_in p)) 64 (8 * p.header.count) (length_header p.header p.eight)
 
 -- the bytes written are read as the program
-pub reread : (p : Program) (e after : List ℕ) → after ≡ image_of p.header (code_in p) ++ drop (image_length p.header) e → ReadAs (take (image_length p.header) after) p
-reread p e after is =
+pub reread : (p : Program) (n : ℕ) (e after : List ℕ) → n ≡ image_length p.header → after ≡ image_of p.header (code_in p) ++ drop (image_length p.header) e → ReadAs (take n after) p
+reread p n e after long is =
     let h = p.header in
-    let front : take (image_length h) after ≡ image_of h (code_in p) =
-    ap (take (image_length h)) is ∙ take_at (image_of h (code_in p)) (drop (image_length h) e) (image_length h) (length_image h (code_in p) (header_of p) (code_of_lem p)) in
+    let front : take n after ≡ image_of h (code_in p) =
+    (λ t. take (long t) (is t)) ∙ take_at (image_of h (code_in p)) (drop (image_length h) e) (image_length h) (length_image h (code_in p) (header_of p) (code_of_lem p)) in
     subst (λ (bs : List ℕ). ReadAs bs p) (sym front)
     (record {
       accepted = image_passes h (code_in p) (header_of p) (code_of_lem p);

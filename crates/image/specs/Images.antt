@@ -18,6 +18,10 @@ use Rattle.header.specs.Layout.{header_at, header_bytes, header_refusal}
 abbrev pub limits_of : Header → Limits
 limits_of h = record { registers = registers_of h.kind; tables = h.used }
 
+-- the instruction in eight bytes
+abbrev pub instruction_of : List ℕ → Instruction
+instruction_of bytes = decode (fields_at bytes 0)
+
 -- the instruction at a place of the body, which is what follows the header
 abbrev pub instruction_at : List ℕ → ℕ → Instruction
 instruction_at body p = decode (fields_at body p)

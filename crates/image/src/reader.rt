@@ -1,13 +1,17 @@
 // Reads an image.
-ghost use Rattle.std.specs.Prelude.{◌≡◌, ℕ, ◌+◌, ◌*◌, ◌≤◌, [], ◌++◌, length, drop, IfOk};
+ghost use Rattle.std.specs.Prelude.{◌≡◌, ℕ, ◌+◌, ◌*◌, ◌/◌, ◌≤◌, [], ◌++◌, length, drop, map, IfOk, slice_index_or};
+ghost use Rattle.std.specs.Simd.{first_chunks};
+ghost use Rattle.program.specs.declared.refusal.Reason.TheVariants.{BadField};
 ghost use Rattle.program.specs.Refusals.{refused_by};
+ghost use Rattle.program.specs.Firsts.{first_failing};
 ghost use Rattle.program.specs.Pairing.{pairing};
+ghost use Rattle.fields.specs.Fields.{fields_at};
+ghost use Rattle.fields.specs.Rows.{admitted};
 ghost use Rattle.header.specs.Layout.{header_at};
-ghost use Rattle.image.specs.Images.{instructions as instructions_of, fields_refusal, image_refusal};
+ghost use Rattle.image.specs.Images.{instruction_of, image_refusal, read_refusal};
 ghost use Rattle.image.specs.Reading.{Reads, Rewrites, Nests};
 
 use brackets::openings::Matcher;
-use fields::codec;
 use fields::fields::Fields;
 use fields::rows::Limits;
 use header::decode;
@@ -17,42 +21,44 @@ use program::header::Header;
 use program::program::Program;
 use program::refusal::{Reason, Refusal};
 
-fn check_fields(body: &[u8], header: &Header) -> Result<(), Refusal>
-    requires { length body.now ≡ 8 * header.now.count }
-    ensures { refused_by result ≡ fields_refusal header.now body.now }
+// What follows the header: eight bytes for each instruction.
+fn code_in(image: &[u8]) -> &[[u8; 8]]
+    requires { 64 ≤ length image.now }
+    ensures chunks { result.now ≡ first_chunks 8 (length (drop 64 image.now) / 8) (drop 64 image.now) }
+    ensures count { length result.now ≡ length (drop 64 image.now) / 8 }
 {
-    let limits = Limits {
-        registers: header.kind.registers(),
-        tables: header.used,
-    };
-    for place in 0..header.count as usize {
-        if !Fields::at(body, place).admitted(limits) {
-            return Err(Refusal {
-                reason: Reason::BadField,
-                place,
-            });
-        }
-    }
-    Ok(())
+    let (code, _) = image[64..].as_chunks::<8>();
+    code
 }
 
-fn check_brackets(body: &[u8], n: usize) -> Result<(), Refusal>
-    requires { length body.now ≡ 8 * n }
-    ensures { refused_by result ≡ pairing [] 0 (instructions_of body.now n) }
+fn check_fields(code: &[[u8; 8]], limits: Limits) -> Result<(), Refusal>
+    ensures { refused_by result ≡ first_failing BadField (λ place. admitted limits (fields_at (slice_index_or code.now place []) 0)) 0 (length code.now) }
+{
+    match code
+        .iter()
+        .position(|bytes| !Fields::from_bytes(*bytes).admitted(limits))
+    {
+        Some(place) => Err(Reason::BadField.at(place)),
+        None => Ok(()),
+    }
+}
+
+fn check_brackets(code: &[[u8; 8]]) -> Result<(), Refusal>
+    ensures { refused_by result ≡ pairing [] 0 (map instruction_of code.now) }
 {
     let mut matcher = Matcher::new();
-    for place in 0..n {
-        matcher.pass(codec::instruction(Fields::at(body, place)), place, ())?;
+    for (place, bytes) in code.iter().enumerate() {
+        matcher.pass(Fields::from_bytes(*bytes).into(), place, ())?;
     }
     matcher.finish()
 }
 
-fn fill(body: &[u8], n: usize, list: &mut Vec<Instruction>)
-    requires { (length body.now ≡ 8 * n) × (n ≤ length list.old.items) }
-    ensures { list.new.items ≡ instructions_of body.now n ++ drop n list.old.items }
+fn fill(code: &[[u8; 8]], list: &mut Vec<Instruction>)
+    requires { length code.now ≤ length list.old.items }
+    ensures { list.new.items ≡ map instruction_of code.now ++ drop (length code.now) list.old.items }
 {
-    for place in 0..n {
-        list[place] = codec::instruction(Fields::at(body, place));
+    for (place, bytes) in code.iter().enumerate() {
+        list[place] = Fields::from_bytes(*bytes).into();
     }
 }
 
@@ -62,9 +68,26 @@ pub fn check(image: &[u8]) -> Result<Header, Refusal>
     ensures value { IfOk result (λ h. (h ≡ header_at image.now) × (length image.now ≡ 64 + 8 * h.count)) }
 {
     let header = decode::decode(image)?;
-    let body = &image[64..];
-    check_fields(body, &header)?;
-    check_brackets(body, header.count as usize)?;
+    let code = code_in(image);
+    let limits = Limits {
+        registers: header.kind.registers(),
+        tables: header.used,
+    };
+    check_fields(code, limits)?;
+    check_brackets(code)?;
+    Ok(header)
+}
+
+// The same, and that there is room for so many instructions.
+fn check_room(image: &[u8], room: usize) -> Result<Header, Refusal>
+    ensures refusal { refused_by result ≡ read_refusal image.now room }
+    ensures value { IfOk result (λ h. (h ≡ header_at image.now) × (length image.now ≡ 64 + 8 * h.count) × (h.count ≤ room)) }
+{
+    let header = check(image)?;
+    let count = usize::from(header.count);
+    if room < count {
+        return Err(Reason::NoRoomForCode.at(count));
+    }
     Ok(header)
 }
 
@@ -75,20 +98,11 @@ pub fn read(image: &[u8], mut list: Vec<Instruction>) -> Result<Program, HandedB
     ensures rewritten { Rewrites image.now result }
     ensures nested { Nests image.now result }
 {
-    let header = match check(image) {
-        Ok(header) => header,
-        Err(refusal) => return Err(HandedBack { refusal, list }),
-    };
-    let n = header.count as usize;
-    if list.len() < n {
-        return Err(HandedBack {
-            refusal: Refusal {
-                reason: Reason::NoRoomForCode,
-                place: n,
-            },
-            list,
-        });
+    match check_room(image, list.len()) {
+        Ok(header) => {
+            fill(code_in(image), &mut list);
+            Ok(Program::new(header, list))
+        }
+        Err(refusal) => Err(HandedBack { refusal, list }),
     }
-    fill(&image[64..], n, &mut list);
-    Ok(Program::new(header, list))
 }

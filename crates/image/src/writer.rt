@@ -1,21 +1,23 @@
 // Writes an image.
-ghost use Rattle.std.specs.Prelude.{◌≡◌, ◌+◌, ◌*◌, ◌≤◌, ◌++◌, length, take, drop};
+ghost use Rattle.std.specs.Prelude.{◌≡◌, ◌*◌, length};
 ghost use Rattle.image.specs.Images.{code_bytes};
 ghost use Rattle.image.specs.Writing.{write_answer, written, Rereads};
 
-use fields::codec;
+use fields::fields::Fields;
 use header::encode;
 use instructions::Instruction;
 use program::program::Program;
 use program::refusal::{Reason, Refusal};
 
-// Each instruction goes into its own eight bytes of the output.
+// Each instruction goes into its own eight bytes. They are found by its number, since of what a
+// loop over the chunks of a slice wrote no proof can know.
 fn write_code(code: &[Instruction], out: &mut [u8])
-    requires { 64 + 8 * length code.now ≤ length out.old }
-    ensures { out.new ≡ (take 64 out.old ++ code_bytes code.now) ++ drop (64 + 8 * length code.now) out.old }
+    requires { length out.old ≡ 8 * length code.now }
+    ensures { out.new ≡ code_bytes code.now }
 {
     for (i, instruction) in code.iter().enumerate() {
-        codec::fields_of(*instruction).write(&mut out[64 + 8 * i..72 + 8 * i]);
+        let bytes = Fields::from(*instruction).to_bytes();
+        out[8 * i..8 * i + 8].copy_from_slice(&bytes);
     }
 }
 
@@ -27,14 +29,11 @@ pub fn write(program: &Program, out: &mut [u8]) -> Result<usize, Refusal>
     ensures reread { Rereads result out.new program.now }
 {
     let header = program.header();
-    let needed = 64 + 8 * header.count as usize;
+    let needed = 64 + 8 * usize::from(header.count);
     if out.len() < needed {
-        return Err(Refusal {
-            reason: Reason::NoRoomForImage,
-            place: needed,
-        });
+        return Err(Reason::NoRoomForImage.at(needed));
     }
-    encode::encode(&header, out);
-    write_code(program.code(), out);
+    out[..64].copy_from_slice(&encode::encode(&header));
+    write_code(program.code(), &mut out[64..needed]);
     Ok(needed)
 }

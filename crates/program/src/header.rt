@@ -70,6 +70,14 @@ pub struct Table {
     pub secret: bool,
 }
 
+impl Table {
+    /// An entry that is not used.
+    pub const UNUSED: Table = Table {
+        length: 0,
+        secret: false,
+    };
+}
+
 /// The tables lie one after another from cell 0; entries from `used` on are not used.
 #[derive(Clone, Copy)]
 pub struct Header {

@@ -6,5 +6,5 @@ use Rattle.header.proofs.decode.tables.Given as goal
 abbrev pub invariant-loop-i : goal.invariant-loop-i
 invariant-loop-i l =
     (length l.tables ≡ 8)
-    × ((k : ℕ) → k < l.i → entry_good l.image l.used k ≡ true)
-    × ((k : ℕ) (d : Table) → k < l.i → get_or l.tables k d ≡ table_at l.image k)
+    × ((k : ℕ) → k < l.i → entry_good l.bytes l.used k ≡ true)
+    × ((k : ℕ) (d : Table) → k < l.i → get_or l.tables k d ≡ table_at l.bytes k)

@@ -1,9 +1,13 @@
-use Rattle.std.proofs.Common.{◌≡◌, length, rules}
+use Rattle.std.proofs.Common.{ap, ◌∙◌}
+use Rattle.std.specs.List.{flat_map}
+use Rattle.std.proofs.lemmas.List.Folds.{flat_map-map}
+use Rattle.header.specs.Layout.{entry_bytes}
 use Rattle.header.proofs.Written.{header_written}
 use Rattle.header.proofs.encode.encode.Goals as goal
 
 pub returns : goal.returns
 returns c =
     let h = c.args.header.now in
-    let eight : length h.tables ≡ 8 = search rules in
-    header_written h eight c.args.out.now c.write_start.new.out c.write_tables.new.out c.write_rest.new.out c.write_start.ensures c.write_tables.ensures c.write_rest.ensures
+    let start = c.copy_from_slice.ensures.after ∙ c.start.ensures in
+    let entries = c.copy_from_slice-2.ensures.after ∙ c.as_flattened.ensures.value ∙ ap (flat_map (λ x. x)) c.entries.ensures ∙ flat_map-map (λ x. x) entry_bytes h.tables in
+    header_written h c.copy_from_slice.new.self c.copy_from_slice-2.new.self start entries

@@ -1,25 +1,23 @@
-use Rattle.std.proofs.Common.{sym, ◌∙◌, arith, below_more}
+use Rattle.std.proofs.Common.{◌≡◌, ℕ, true, false, List, [], length, get_or, Some, sym, ap, ◌∙◌, arith, rules}
+use Rattle.std.proofs.lemmas.Iterator.{IsFirst-from_position, YieldsList-from_slice}
+use borrow.Author.Tests.{tests}
 use Rattle.program.specs.declared.refusal.Reason.TheVariants.{BadField}
 use Rattle.program.proofs.Firsts.{failing_at, failing_none}
-use Rattle.image.specs.Images.{fields_good}
-use Rattle.image.proofs.Loops.{good_is}
+use Rattle.fields.specs.Fields.{fields_at}
+use Rattle.fields.specs.Rows.{admitted}
 use Rattle.image.proofs.reader.check_fields.Goals as goal
 
-pub returns-then-not-admitted : goal.returns-then-not-admitted
-returns-then-not-admitted c =
-    let h = c.args.header.now in
-    let body = c.args.body.now in
-    let p = c.loop-place.place in
-    let bad = good_is h body p c.registers.result c.at.result c.admitted.result c.registers.ensures c.at.ensures c.admitted.ensures ∙ c.if-not-admitted.true in
-    sym (failing_at BadField (fields_good h body) 0 h.count p (omega arith) (omega arith) (λ k _ l. c.loop-place.invariant k l) bad)
+pub returns-in-Some : goal.returns-in-Some
+returns-in-Some c =
+    let code = c.args.code.now in
+    let good = λ (bytes : List ℕ). admitted c.args.limits (fields_at bytes 0) in
+    let first = IsFirst-from_position _ _ _ (λ bytes. good bytes ≡ false) (λ bytes. good bytes ≡ true) c.in-Some.ensures.ran (YieldsList-from_slice code c.iter.ensures.rest) (λ x q k. search (rules, tests)) (λ x q k. search (rules, tests)) in
+    ap (λ e. Some e) c.at.ensures
+    ∙ sym (failing_at BadField (λ p. good (get_or code p [])) 0 (length code) c.in-Some.place (omega arith) (omega (arith, first.0)) (λ k _ l. first.2 k [] (omega arith) l) (first.1 []))
 
-pub loop-place-preserved : goal.loop-place-preserved
-loop-place-preserved c =
-    let h = c.args.header.now in
-    let body = c.args.body.now in
-    let p = c.loop-place.place in
-    below_more _ _ c.loop-place.invariant
-    (good_is h body p c.registers.result c.at.result c.admitted.result c.registers.ensures c.at.ensures c.admitted.ensures ∙ c.if-not-admitted.false)
-
-pub returns : goal.returns
-returns c = sym (failing_none BadField (fields_good c.args.header.now c.args.body.now) 0 c.args.header.now.count (λ k _ h. c.loop-place.invariant k (omega arith)))
+pub returns-in-None : goal.returns-in-None
+returns-in-None c =
+    let code = c.args.code.now in
+    let good = λ (bytes : List ℕ). admitted c.args.limits (fields_at bytes 0) in
+    let all = IsFirst-from_position _ _ _ (λ bytes. good bytes ≡ false) (λ bytes. good bytes ≡ true) c.in-None.ensures.ran (YieldsList-from_slice code c.iter.ensures.rest) (λ x q k. search (rules, tests)) (λ x q k. search (rules, tests)) in
+    sym (failing_none BadField (λ p. good (get_or code p [])) 0 (length code) (λ k _ l. all k [] (omega arith) (omega arith)))
