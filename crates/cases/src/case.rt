@@ -9,7 +9,7 @@ use counting::most_steps;
 use image::reader;
 use instructions::Instruction;
 use layered::pile::{Pile, into_leaf};
-use machine::visit::Visit;
+use machine::visit::{Choice, Visit};
 use makes::named::{make, pile};
 use makes::shown::{Seen, Words};
 use makes::words::words;
@@ -229,7 +229,7 @@ fn run_program(heap: Global, case: Case) -> Result<String, AllocError> {
     };
     let mut visits = vec![in heap; Visit {
         place: 0,
-        choice: 0
+        choice: Choice::Onward
     }; room]?;
     match run::run(&program, &mut memory, &entry, &mut visits) {
         Ok(outcome) => {

@@ -2,7 +2,7 @@
 use machine::visit::Visit;
 use std::fmt;
 
-/// Each visit as its place and its choice, separated by commas; `-` stands for none.
+/// Each visit as its place and the number of its choice, separated by commas; `-` stands for none.
 #[derive(Clone, Copy)]
 pub struct Visits<'a> {
     pub visits: &'a [Visit],
@@ -18,7 +18,7 @@ impl fmt::Display for Visits<'_> {
                 f.write_str(",")?;
             }
             let place = visit.place;
-            let choice = visit.choice;
+            let choice = visit.choice as u8;
             write!(f, "{place}.{choice}")?;
         }
         Ok(())

@@ -2,8 +2,8 @@
 use flat::Flat;
 use image::reader::read;
 use instructions::Instruction;
-use machine::visit::Visit;
-use run::run;
+use machine::visit::{Choice, Visit};
+use run::{Outcome, run};
 use std::alloc::{AllocError, Global};
 use std::test::Fail;
 
@@ -20,9 +20,28 @@ struct Case {
     answer: Answer,
 }
 
-/// A refusal's number or 0, and of a run the steps, the marks, register 0, and the place after a
-/// fault or 0.
-type Answer = (u8, usize, usize, u32, u16);
+/// What a run came to, or the number of a refusal.
+type Answer = Result<Ran, u8>;
+
+/// Steps and marks of a run, register 0 after it, and where a fault was.
+#[derive(Clone, Copy, PartialEq, Eq, Debug)]
+struct Ran {
+    steps: usize,
+    marks: usize,
+    first: u32,
+    fault: Option<u16>,
+}
+
+impl From<Outcome> for Ran {
+    fn from(outcome: Outcome) -> Ran {
+        Ran {
+            steps: outcome.steps,
+            marks: outcome.marks,
+            first: outcome.registers[0],
+            fault: outcome.fault,
+        }
+    }
+}
 
 fn image_of(heap: Global, case: &Case) -> Result<Vec<u8>, AllocError> {
     let mut image = vec![in heap; 0u8; 64]?;
@@ -51,26 +70,17 @@ fn answer(heap: Global, case: &Case) -> Result<(Answer, Vec<Visit>), AllocError>
     let seen = vec![in heap; 0u32; case.marks]?;
     let mut visits = vec![in heap; Visit {
         place: 9999,
-        choice: 9,
+        choice: Choice::Fault,
     }; case.visits]?;
     let mut memory = Flat::new(cells, seen);
     let mut entry = [0; 16];
     entry[1] = case.word;
     let answer = match read(&image, list) {
         Ok(program) => match run(&program, &mut memory, &entry, visits.as_mut_slice()) {
-            Ok(outcome) => (
-                0,
-                outcome.steps,
-                outcome.marks,
-                outcome.registers[0],
-                match outcome.fault {
-                    Some(place) => place.wrapping_add(1),
-                    None => 0,
-                },
-            ),
-            Err(refusal) => (refusal.number(), 0, 0, 0, 0),
+            Ok(outcome) => Ok(outcome.into()),
+            Err(refusal) => Err(refusal.number()),
         },
-        Err(back) => (back.refusal.number(), 0, 0, 0, 0),
+        Err(back) => Err(back.refusal.number()),
     };
     Ok((answer, visits))
 }
@@ -89,7 +99,12 @@ const PAST: Case = Case {
     cells: 4,
     marks: 1,
     visits: 1,
-    answer: (0, 1, 0, 0, 1),
+    answer: Ok(Ran {
+        steps: 1,
+        marks: 0,
+        first: 0,
+        fault: Some(0),
+    }),
 };
 
 const CASES: [Case; 3] = [
@@ -98,7 +113,7 @@ const CASES: [Case; 3] = [
     Case {
         body: &[REPEAT_999, REPEAT_1000, AGAIN, AGAIN],
         cells: 3,
-        answer: (14, 0, 0, 0, 0),
+        answer: Err(14),
         ..PAST
     },
     // a converted program with brackets, and registers past 15
@@ -117,7 +132,12 @@ const CASES: [Case; 3] = [
         cells: 0,
         marks: 0,
         visits: 10,
-        answer: (0, 7, 0, 41, 0),
+        answer: Ok(Ran {
+            steps: 7,
+            marks: 0,
+            first: 41,
+            fault: None,
+        }),
     },
 ];
 
@@ -137,7 +157,12 @@ const LONGEST: Case = Case {
     cells: 0,
     marks: 0,
     visits: 1_000_001,
-    answer: (0, 1_000_000, 0, 0, 0),
+    answer: Ok(Ran {
+        steps: 1_000_000,
+        marks: 0,
+        first: 0,
+        fault: None,
+    }),
 };
 
 #[test]
@@ -146,7 +171,7 @@ fn the_longest_run(rt: HostRuntime) -> Result<(), Fail> {
     assert_eq!(rt; found, LONGEST.answer);
     let last = Visit {
         place: 3,
-        choice: 2,
+        choice: Choice::Past,
     };
     assert_eq!(rt; visits.get(999_999).copied(), Some(last));
     Ok(())

@@ -1,10 +1,10 @@
 // A run, in lines: every visit and every mark, and what the registers then hold.
 use machine::visit::Visit;
-use memory::Memory;
+use program::header::Kind;
 use run::Outcome;
 use std::fmt;
 
-/// A visit: its place and its choice.
+/// A visit: its place and the number of its choice.
 #[derive(Clone, Copy)]
 pub struct VisitLine {
     pub visit: Visit,
@@ -13,7 +13,7 @@ pub struct VisitLine {
 impl fmt::Display for VisitLine {
     fn fmt<W: fmt::Write>(&self, f: &mut fmt::Formatter<W>) -> fmt::Result {
         let place = self.visit.place;
-        let choice = self.visit.choice;
+        let choice = self.visit.choice as u8;
         write!(f, "visit {place} {choice}")
     }
 }
@@ -36,18 +36,18 @@ impl fmt::Display for Totals {
     }
 }
 
-/// The registers, so many of them.
+/// The registers that a program of a kind has.
 #[derive(Clone, Copy)]
 pub struct Registers {
     pub words: [u32; 32],
-    pub count: u8,
+    pub kind: Kind,
 }
 
 impl fmt::Display for Registers {
     fn fmt<W: fmt::Write>(&self, f: &mut fmt::Formatter<W>) -> fmt::Result {
         f.write_str("registers:")?;
-        for i in 0..(self.count as usize).min(32) {
-            let word = self.words[i];
+        let count = self.kind.registers() as usize;
+        for (i, word) in self.words.iter().take(count).enumerate() {
             write!(f, " r{i}={word}")?;
         }
         Ok(())

@@ -1,7 +1,7 @@
 -- What the loop of a run keeps.
-use Rattle.std.proofs.Common.{◌≡◌, ℕ, suc, ◌+◌, ◌-◌, ◌<◌, ◌≤◌, true, false, cond, ltb, leb, List, [], ◌∷◌, ◌++◌, map, length, get_or, drop, set, None, Option, sym, refl, ap, ◌∙◌, subst, add-one, arith, length-append}
+use Rattle.std.proofs.Common.{◌≡◌, ℕ, suc, ◌+◌, ◌-◌, ◌<◌, ◌≤◌, true, false, ltb, leb, List, [], ◌∷◌, ◌++◌, map, length, get_or, drop, set, None, Option, sym, refl, ap, ◌∙◌, subst, add-one, arith, length-append}
 use Rattle.std.proofs.lemmas.List.{append-nil, append_assoc, get_or-map, drop_more, set_at, length_push}
-use Rattle.std.proofs.lemmas.Bool.{lt-ltb, leb-true, leb-false, eq-eqb, ne_eqb}
+use Rattle.std.proofs.lemmas.Bool.{lt-ltb, leb-true, leb-false}
 use Rattle.instructions.specs.declared.Op.{Op}
 use Rattle.instructions.specs.declared.Op.TheVariants.{Set, Pick, Load, Store}
 use Rattle.instructions.specs.declared.Instruction.{Instruction}
@@ -17,12 +17,14 @@ use Rattle.memory.specs.declared.Access.{Access}
 use Rattle.memory.specs.declared.Access.TheVariants.{Read, Write}
 use Rattle.memory.specs.Description.{Description, Rules, free}
 use Rattle.memory.specs.Laws.{Lawful}
+use Rattle.machine.specs.declared.visit.Choice.TheVariants.{Onward, Inward, Past, Fault}
 use Rattle.machine.specs.declared.repeat.OpenRepeat.{OpenRepeat}
 use Rattle.machine.specs.declared.visit.Visit.{Visit}
+use Rattle.machine.specs.declared.visit.Choice.{Choice}
 use Rattle.machine.specs.Fits.{FitOp, Fit}
 use Rattle.machine.specs.Programs.{code_of}
 use Rattle.machine.proofs.Programs.{code_long}
-use Rattle.machine.specs.States.{Event, visit, reads, writes, held}
+use Rattle.machine.specs.States.{Event, visit, reads, writes, State, held}
 use Rattle.machine.specs.Machine.{length_of, loads, stores, Conf, go, stop, state_of, land, step, next, steps, first, start, count}
 use Rattle.machine.specs.Most.{each_step, weigh, most_of}
 use Rattle.execution.specs.Runs.{Able}
@@ -35,9 +37,8 @@ use Rattle.memory.specs.declared.window.Window.{Window}
 use Rattle.windows.specs.Windows.{no_window, Laid}
 use Rattle.windows.proofs.Laying.{within_all}
 use Rattle.stepping.specs.Turns.{Allowed, ReadyOp, Ready}
-use Rattle.run.specs.declared.Outcome.{Outcome}
 use Rattle.run.specs.Run.{visit_at, outcome_of, visits_of, marks_of, fault_of, finish, Runnable, Ended, ReadNested}
-use Rattle.run.proofs.Steps.{state, Stepped}
+use Rattle.run.proofs.Steps.{state, landing, Stepped}
 
 count_visits : (t : List Event) → length (visits_of t) ≡ count t
 count_visits [] = refl
@@ -45,10 +46,17 @@ count_visits (visit p c ∷ t) = length_push (visits_of t) (visit_at p c) ∙ (a
 count_visits (reads p b i ∷ t) = count_visits t
 count_visits (writes p b i ∷ t) = count_visits t
 
+-- a choice that is no fault goes on
+goes_on : (c : Choice) (p q : ℕ) (fs : List OpenRepeat) (s : State) → (c ≡ Fault → ⊥) → landing c p q fs s ≡ go q fs s
+goes_on Onward p q fs s n = refl
+goes_on Inward p q fs s n = refl
+goes_on Past p q fs s n = refl
+goes_on Fault p q fs s n = absurd (n refl)
+
 -- one visit more
 put_visit : (A vs : List Visit) (n : ℕ) (v : Visit) → length A ≡ n → n < length vs → set (A ++ drop n vs) n v ≡ (A ++ (v ∷ [])) ++ drop (n + 1) vs
 put_visit A vs n v e h =
-    let z : Visit = visit_at 0 0 in
+    let z : Visit = visit_at 0 Onward in
     ap (λ l. set (A ++ l) n v) (drop_more vs n z h) ∙ (set_at A (get_or vs n z) (drop (n + 1) vs) v n e ∙ sym (append_assoc A (v ∷ []) (drop (n + 1) vs)))
 
 module _ (tables : List Table) (code : List Instruction) (entry : List ℕ) (d0 : Description) (vs0 : List Visit) where
@@ -91,8 +99,8 @@ module _ {tables : List Table} {code : List Instruction} {entry : List ℕ} {d0 
       }
 
   pub kept_more : {made p : ℕ} {fs : List OpenRepeat} {r : List ℕ} {d : Description} {vs : List Visit} {t : List Event} {m : Move} {fs' : List OpenRepeat} {r' : List ℕ} {d' : Description}
-      → made < length vs0 → Kept tables code entry d0 vs0 made d vs t → (s : Stepped tables code p fs r d t m fs' r' d') → {v : Visit} → v ≡ visit_at p m.choice → Kept tables code entry d0 vs0 (made + 1) d' (set vs made v) s.trace
-  kept_more {made = made} {p = p} {vs = vs} {t = t} {m = m} h k s e =
+      → made < length vs0 → Kept tables code entry d0 vs0 made d vs t → (s : Stepped tables code p fs r d t m fs' r' d') → Kept tables code entry d0 vs0 (made + 1) d' (set vs made (visit_at p m.choice)) s.trace
+  kept_more {made = made} {p = p} {vs = vs} {t = t} {m = m} h k s =
       let P : Rules → Type 0 = λ u. marks_of tables u.shows s.trace ≡ marks_of tables u.shows t ++ s.new in
       let Q : Rules → Type 0 = λ u. weigh (mark_price u.cost tables) s.trace ≡ weigh (mark_price u.cost tables) t + length s.new in
       let em : P d0.rules = subst P k.rules s.marks in
@@ -105,7 +113,7 @@ module _ {tables : List Table} {code : List Instruction} {entry : List ℕ} {d0 
         seen = s.seen ∙ (ap (λ l. l ++ s.new) k.seen ∙ (append_assoc d0.seen ml s.new ∙ ap (λ l. d0.seen ++ l) (sym em)));
         weighed = ap length em ∙ (length-append ml s.new ∙ (ap (λ n. n + length s.new) k.weighed ∙ sym ew));
         counts = s.counts ∙ (ap suc k.counts ∙ sym (add-one made));
-        visits = ap (set vs made) e ∙ ap (λ l. set l made v) k.visits ∙ (put_visit (visits_of t) vs0 made v (count_visits t ∙ k.counts) h ∙ ap (λ l. l ++ drop (made + 1) vs0) (sym s.visits));
+        visits = ap (λ l. set l made v) k.visits ∙ (put_visit (visits_of t) vs0 made v (count_visits t ∙ k.counts) h ∙ ap (λ l. l ++ drop (made + 1) vs0) (sym s.visits));
       }
 
   -- the list of marks only grows
@@ -158,7 +166,7 @@ module _ {tables : List Table} {code : List Instruction} {entry : List ℕ} {d0 
             let i = held r y in
             let s = state r d.cells a.trace in
             let e1 : ltb i (length_of tables b) ≡ true = lt-ltb i (length_of tables b) o in
-            let t = reads p b i ∷ visit p 0 ∷ a.trace in
+            let t = reads p b i ∷ visit p Onward ∷ a.trace in
             let e : (state_of (next tables code (go p fs s))).trace ≡ t =
             ap (λ z. (state_of (step tables code z p fs s)).trace) h ∙ ap (λ z. (state_of (land (loads z p x b i (first_cell tables b + i) s) (suc p) fs)).trace) e1 in
             let c = cost_is Read b f.2 in
@@ -167,7 +175,7 @@ module _ {tables : List Table} {code : List Instruction} {entry : List ℕ} {d0 
             let i = held r y in
             let s = state r d.cells a.trace in
             let e1 : ltb i (length_of tables b) ≡ true = lt-ltb i (length_of tables b) o in
-            let t = writes p b i ∷ visit p 0 ∷ a.trace in
+            let t = writes p b i ∷ visit p Onward ∷ a.trace in
             let e : (state_of (next tables code (go p fs s))).trace ≡ t =
             ap (λ z. (state_of (step tables code z p fs s)).trace) h ∙ ap (λ z. (state_of (land (stores z p x b i (first_cell tables b + i) s) (suc p) fs)).trace) e1 in
             let c = cost_is Write b f.2 in
@@ -177,34 +185,34 @@ module _ {tables : List Table} {code : List Instruction} {entry : List ℕ} {d0 
         opened [] is h = elim h [ ]
         opened (f ∷ gs) is h = omega arith
 
-        ready : (i : Instruction) (is : List Instruction) (depth : ℕ) → length fs ≡ depth → drop p code ≡ i ∷ is → Fit 32 8 i → Able (i ∷ is) fs → Ready ws depth r d i
-        ready (Do o) is depth e h f b = ready_op o is h f
-        ready (If x) is depth e h f b = tt
-        ready Else is depth e h f b = tt
-        ready End is depth e h f b = tt
-        ready (Repeat x k) is depth e h f b = omega arith
-        ready Again is depth e h f b = let o = opened fs is b in omega arith
+        ready : (i : Instruction) (is : List Instruction) → drop p code ≡ i ∷ is → Fit 32 8 i → Able (i ∷ is) fs → Ready ws fs r d i
+        ready (Do o) is h f b = ready_op o is h f
+        ready (If x) is h f b = tt
+        ready Else is h f b = tt
+        ready End is h f b = tt
+        ready (Repeat x k) is h f b = b
+        ready Again is h f b = opened fs is b
 
-        pub turn_ready : {i : Instruction} {is : List Instruction} {depth : ℕ} → length fs ≡ depth → p < length code → drop p code ≡ i ∷ is → Fit 32 8 i → Ready ws depth r d i
-        turn_ready {i = i} {is = is} {depth = depth} e h g f = ready i is depth e g f (subst (λ (l : List Instruction). Able l fs) g (turn_able h).0)
+        pub turn_ready : {i : Instruction} {is : List Instruction} → p < length code → drop p code ≡ i ∷ is → Fit 32 8 i → Ready ws fs r d i
+        turn_ready {i = i} {is = is} h g f = ready i is g f (subst (λ (l : List Instruction). Able l fs) g (turn_able h).0)
 
       pub turn_may : {i : Instruction} {is : List Instruction} → p < length code → drop p code ≡ i ∷ is → Able (i ∷ is) fs
       turn_may h g = subst (λ (l : List Instruction). Able l fs) g (turn_able h).0
 
-      pub turn_more : {m : Move} {fs' : List OpenRepeat} {r' : List ℕ} {d' : Description} → p < length code → (m.choice ≡ 3 → ⊥) → Stepped tables code p fs r d a.trace m fs' r' d' → {v : Visit} → v ≡ visit_at p m.choice
-          → At tables code entry d0 vs0 (made + 1) m.place fs' r' d' (set vs made v)
-      turn_more {m = m} {fs' = fs'} {r' = r'} {d' = d'} h n s e = record {
+      pub turn_more : {m : Move} {fs' : List OpenRepeat} {r' : List ℕ} {d' : Description} → p < length code → (m.choice ≡ Fault → ⊥) → Stepped tables code p fs r d a.trace m fs' r' d'
+          → At tables code entry d0 vs0 (made + 1) m.place fs' r' d' (set vs made (visit_at p m.choice))
+      turn_more {m = m} {fs' = fs'} {r' = r'} {d' = d'} h n s = record {
         trace = s.trace;
-        conf = after ∙ (s.goes ∙ ap (λ b. cond b (stop p (state r' d'.cells s.trace)) (go m.place fs' (state r' d'.cells s.trace))) (ne_eqb m.choice 3 n));
-        kept = kept_more (turn_room h) a.kept s e;
+        conf = after ∙ (s.goes ∙ goes_on m.choice p m.place fs' (state r' d'.cells s.trace) n);
+        kept = kept_more (turn_room h) a.kept s;
         wide = s.long ∙ a.wide;
       }
 
-      pub turn_fault : {m : Move} {fs' : List OpenRepeat} {r' : List ℕ} {d' : Description} → m.choice ≡ 3 → (s : Stepped tables code p fs r d a.trace m fs' r' d')
+      pub turn_fault : {m : Move} {fs' : List OpenRepeat} {r' : List ℕ} {d' : Description} → m.choice ≡ Fault → (s : Stepped tables code p fs r d a.trace m fs' r' d')
           → finish tables code entry d0.cells ≡ stop p (state r' d'.cells s.trace)
       turn_fault {m = m} {fs' = fs'} {r' = r'} {d' = d'} n s =
           finished tables code nest.0 nest.1 nest.2 (first entry d0.cells) (made + 1) (most_steps code) (stop p (state r' d'.cells s.trace))
-          (after ∙ (s.goes ∙ ap (λ b. cond b (stop p (state r' d'.cells s.trace)) (go m.place fs' (state r' d'.cells s.trace))) (eq-eqb m.choice 3 n)))
+          (after ∙ (s.goes ∙ ap (λ c. landing c p m.place fs' (state r' d'.cells s.trace)) n))
           (λ z. z) (steps_left tables code d0 (length vs0) nest al)
 
       pub turn_end : length code ≤ p → finish tables code entry d0.cells ≡ go p fs (state r d.cells a.trace)
@@ -212,33 +220,29 @@ module _ {tables : List Table} {code : List Instruction} {entry : List ℕ} {d0 
           finished tables code nest.0 nest.1 nest.2 (first entry d0.cells) made (most_steps code) (go p fs (state r d.cells a.trace)) a.conf (over_at_end code p fs (state r d.cells a.trace) h) (steps_left tables code d0 (length vs0) nest al)
 
     -- the outcome, at the end or at a fault
-    pub outcome : {made marks : ℕ} {fault : Option ℕ} {d : Description} {vs : List Visit} {t : List Event} (r : List ℕ) (o : Outcome) → o ≡ outcome_of r made marks fault → Kept tables code entry d0 vs0 made d vs t → state_of (finish tables code entry d0.cells) ≡ state r d.cells t
-        → length r ≡ 32 → marks ≡ length d.seen - length d0.seen → fault ≡ fault_of (finish tables code entry d0.cells) → Ended tables code (finish tables code entry d0.cells) d0 d vs0 vs o
-    outcome {made = made} {d = d} {t = t} r o q k e l g3' g4' =
-        let g1 : o.registers ≡ r = ap (λ x. x.registers) q in
-        let g2 : o.steps ≡ made = ap (λ x. x.steps) q in
-        let g3 : o.marks ≡ length d.seen - length d0.seen = ap (λ x. x.marks) q ∙ g3' in
-        let g4 : o.fault ≡ fault_of (finish tables code entry d0.cells) = ap (λ x. x.fault) q ∙ g4' in
+    pub outcome : {made marks : ℕ} {fault : Option ℕ} {d : Description} {vs : List Visit} {t : List Event} (r : List ℕ) → Kept tables code entry d0 vs0 made d vs t → state_of (finish tables code entry d0.cells) ≡ state r d.cells t
+        → length r ≡ 32 → marks ≡ length d.seen - length d0.seen → fault ≡ fault_of (finish tables code entry d0.cells) → Ended tables code (finish tables code entry d0.cells) d0 d vs0 vs (outcome_of r made marks fault)
+    outcome {made = made} {marks = marks} {d = d} {t = t} r k e l g3 g4 =
         let c = finish tables code entry d0.cells in
         let M = marks_of tables d0.rules.shows in
         let w = mark_price d0.rules.cost tables in
         let et : t ≡ (state_of c).trace = ap (λ s. s.trace) (sym e) in
         let el : length d.seen ≡ length d0.seen + length (M t) = ap length k.seen ∙ length-append d0.seen (M t) in
-        let em : o.marks ≡ length (M t) = g3 ∙ (let z : length d.seen - length d0.seen ≡ length (M t) = omega arith in z) in
-        let es : o.steps ≡ count t = g2 ∙ sym k.counts in
+        let em : marks ≡ length (M t) = g3 ∙ (let z : length d.seen - length d0.seen ≡ length (M t) = omega arith in z) in
+        let es : made ≡ count t = sym k.counts in
         let bs : weigh each_step (state_of c).trace ≤ most_of each_step nest.0 + 0 = weighs tables code nest.0 nest.1 nest.2 (first entry d0.cells) (most_steps code) each_step in
         let bm : weigh w (state_of c).trace ≤ most_of w nest.0 + 0 = weighs tables code nest.0 nest.1 nest.2 (first entry d0.cells) (most_steps code) w in
-        let cs : weigh each_step (state_of c).trace ≡ o.steps = ap (weigh each_step) (sym et) ∙ (counted t ∙ sym es) in
-        let cm : weigh w (state_of c).trace ≡ o.marks = ap (weigh w) (sym et) ∙ (sym k.weighed ∙ sym em) in
+        let cs : weigh each_step (state_of c).trace ≡ made = ap (weigh each_step) (sym et) ∙ (counted t ∙ sym es) in
+        let cm : weigh w (state_of c).trace ≡ marks = ap (weigh w) (sym et) ∙ (sym k.weighed ∙ sym em) in
         let ls = steps_left tables code d0 (length vs0) nest al in
         let lm = (marks_left tables code d0 (length vs0) nest law al).1 in
         record {
-          registers = ap held g1 ∙ ap (λ s. s.registers) (sym e);
-          wide = ap length g1 ∙ l;
+          registers = ap (λ s. s.registers) (sym e);
+          wide = l;
           fault = g4;
           steps = es ∙ (sym (count_visits t) ∙ ap (λ x. length (visits_of x)) et);
           few = omega arith;
-          visits = k.visits ∙ (ap (λ n. visits_of t ++ drop n vs0) (sym g2) ∙ ap (λ x. visits_of x ++ drop o.steps vs0) et);
+          visits = k.visits ∙ ap (λ x. visits_of x ++ drop made vs0) et;
           marks = em ∙ ap (λ x. length (M x)) et;
           within = omega arith;
           seen = k.seen ∙ ap (λ x. d0.seen ++ M x) et;

@@ -9,6 +9,7 @@ use Rattle.program.specs.Refusals.{unless, or_else}
 use Rattle.program.specs.Blocks.{Block, flat}
 use Rattle.memory.specs.declared.Access.TheVariants.{Read, Write}
 use Rattle.memory.specs.Description.{Mark, Shows, Description, free}
+use Rattle.machine.specs.declared.visit.Choice.{Choice}
 use Rattle.machine.specs.declared.visit.Visit.{Visit}
 use Rattle.machine.specs.States.{Event, visit, reads, writes, held}
 use Rattle.machine.specs.Machine.{length_of, Conf, go, stop, state_of, land, steps, first, start}
@@ -17,7 +18,7 @@ use Rattle.counting.specs.Counting.{most_steps, most_marks}
 use Rattle.run.specs.declared.Outcome.{Outcome}
 
 -- the visit of a place with a choice
-abbrev pub visit_at : ℕ → ℕ → Visit
+abbrev pub visit_at : ℕ → Choice → Visit
 visit_at p c = record { place = p; choice = c }
 
 -- an outcome, from its parts

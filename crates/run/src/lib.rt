@@ -1,30 +1,26 @@
 // A program's run on a memory.
 #![tactic(auto)]
 
-ghost use Rattle.std.specs.Prelude.{◌≡◌, ◌<◌, length, Err};
-ghost use Rattle.program.specs.Refusals.{refusal};
+ghost use Rattle.std.specs.Prelude.{◌≡◌, length};
 ghost use Rattle.machine.specs.States.{held};
 ghost use Rattle.machine.specs.Programs.{code_of};
 ghost use Rattle.execution.specs.Runs.{RunsEnd};
-ghost use Rattle.run.specs.Run.{visit_at, outcome_of, Runnable, Ended, Ran, Tested, ReadNested, finish};
+ghost use Rattle.run.specs.Run.{Runnable, Ended, Ran, Tested, ReadNested, finish};
 
 use counting::{most_marks, most_steps};
 use execution::is_over;
-use jumps::resolve;
 use machine::places::at;
-use machine::visit::Visit;
+use machine::visit::{Choice, Visit};
 use memory::Memory;
 use program::program::Program;
 use program::refusal::{Reason, Refusal};
 use repeats::Repeats;
-use stepping::step::step;
-use windows::{cells, lay};
+use stepping::layout::Layout;
+use stepping::state::State;
+use windows::cells;
 
 /// The most steps that a run may need.
 const MOST_STEPS: usize = 1_000_000;
-
-/// The choice of a step that stops the run.
-const FAULT: u8 = 3;
 
 /// What a run answers: the registers, how many steps it made and how many marks it left, and the
 /// place of a fault if it stopped at one.
@@ -42,16 +38,8 @@ fn started(entry: &[u32; 16]) -> [u32; 32]
     ensures wide { length result ≡ 32 }
 {
     let mut registers = [0; 32];
-    for i in 0..16usize {
-        registers[i] = entry[i];
-    }
+    registers[..16].copy_from_slice(entry);
     registers
-}
-
-fn refuse(reason: Reason) -> Result<(), Refusal>
-    ensures { result ≡ Err (refusal reason 0) }
-{
-    Err(Refusal { reason, place: 0 })
 }
 
 // Whether the run may begin, with room for so many visits.
@@ -60,39 +48,18 @@ fn test<M: Memory>(program: &Program, memory: &M, room: usize) -> Result<(), Ref
 {
     let steps = most_steps(program);
     if steps > MOST_STEPS {
-        return refuse(Reason::TooManySteps);
+        return Err(Reason::TooManySteps.into());
     }
     if cells(program) > memory.size() {
-        return refuse(Reason::MemoryTooSmall);
+        return Err(Reason::MemoryTooSmall.into());
     }
     if steps > room {
-        return refuse(Reason::NoRoomForVisits);
+        return Err(Reason::NoRoomForVisits.into());
     }
     if most_marks(program, memory) > memory.free() {
-        return refuse(Reason::NoFreeMarks);
+        return Err(Reason::NoFreeMarks.into());
     }
     Ok(())
-}
-
-fn visit(place: usize, choice: u8) -> Visit
-    requires { place < 3000 }
-    ensures { result ≡ visit_at place choice }
-{
-    Visit {
-        place: place as u16,
-        choice,
-    }
-}
-
-fn ended(registers: [u32; 32], steps: usize, marks: usize, fault: Option<u16>) -> Outcome
-    ensures { result ≡ outcome_of registers steps marks fault }
-{
-    Outcome {
-        registers,
-        steps,
-        marks,
-        fault,
-    }
 }
 
 // The run itself: every access is one that the memory does not deny.
@@ -105,33 +72,38 @@ fn go<M: Memory>(
     requires { Runnable program.now.header.tables (code_of program.now) (M.model memory.old) (length visits.old) }
     ensures { Ended program.now.header.tables (code_of program.now) (finish program.now.header.tables (code_of program.now) entry.now (M.model memory.old).cells) (M.model memory.old) (M.model memory.new) visits.old visits.new result }
 {
-    let jumps = resolve(program);
-    let windows = lay(program);
+    let layout = Layout::new(program);
     let count = program.header().count as usize;
     let before = memory.marks();
-    let mut registers = started(entry);
-    let mut repeats = Repeats::new();
+    let mut state = State {
+        registers: started(entry),
+        repeats: Repeats::new(),
+    };
     let mut place = 0;
     let mut steps = 0;
     'turns: while !is_over(place, count) {
-        let moved = step(
-            at(program, place),
-            place,
-            &jumps,
-            &windows,
-            &mut registers,
-            &mut repeats,
-            memory,
-        );
-        visits[steps] = visit(place, moved.choice);
+        let moved = state.step(at(program, place), place, &layout, memory);
+        visits[steps] = Visit {
+            place: place as u16,
+            choice: moved.choice,
+        };
         steps += 1;
-        if moved.choice == FAULT {
-            let marks = memory.marks() - before;
-            return ended(registers, steps, marks, Some(place as u16));
+        if moved.choice == Choice::Fault {
+            return Outcome {
+                registers: state.registers,
+                steps,
+                marks: memory.marks() - before,
+                fault: Some(place as u16),
+            };
         }
         place = moved.place;
     }
-    ended(registers, steps, memory.marks() - before, None)
+    Outcome {
+        registers: state.registers,
+        steps,
+        marks: memory.marks() - before,
+        fault: None,
+    }
 }
 
 /// Runs a program of either kind from these entry registers, and writes down each step. It refuses,

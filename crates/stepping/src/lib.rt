@@ -2,4 +2,6 @@
 #![tactic(auto)]
 
 pub mod access;
-pub mod step;
+pub mod layout;
+mod op;
+pub mod state;

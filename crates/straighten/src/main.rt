@@ -10,7 +10,7 @@ use instructions::Instruction;
 use listing::listing::Listing;
 use listing::refused::Refused;
 use listing::written::WrittenBack;
-use machine::visit::Visit;
+use machine::visit::{Choice, Visit};
 use memory::Memory;
 use plan::plan::plan;
 use program::header::Kind;
@@ -92,7 +92,7 @@ fn show_run(
     let mut memory = Flat::new(cells, vec![in heap; 0u32; bounds.flat]?);
     let mut visits = vec![in heap; Visit {
         place: 0,
-        choice: 0
+        choice: Choice::Onward
     }; bounds.steps]?;
     match run(program, &mut memory, &entry, &mut visits) {
         Ok(outcome) => show_outcome(rt, program, outcome, &visits, &memory),
@@ -112,9 +112,9 @@ fn show_outcome(
     }
     show_marks(rt, memory)?;
     rt.println(Totals { outcome })?;
-    let count = program.header().kind.registers();
+    let kind = program.header().kind;
     let words = outcome.registers;
-    rt.println(Registers { words, count })?;
+    rt.println(Registers { words, kind })?;
     Ok(())
 }
 

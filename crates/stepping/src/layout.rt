@@ -1,0 +1,29 @@
+// Where a program's brackets and tables lie.
+ghost use Rattle.machine.specs.Programs.{code_of};
+ghost use Rattle.jumps.specs.Jumps.{Resolved};
+ghost use Rattle.windows.specs.Windows.{Laid};
+
+use jumps::resolve;
+use memory::window::Window;
+use program::program::Program;
+use windows::lay;
+
+/// Where each bracket jumps to, and the window of each table.
+#[derive(Drop)]
+pub struct Layout {
+    pub jumps: [u16; 3000],
+    pub windows: [Window; 8],
+}
+
+impl Layout {
+    /// Worked out once for a run.
+    pub fn new(program: &Program) -> Layout
+        ensures jumps { Resolved (code_of program.now) result.jumps }
+        ensures windows { Laid program.now.header.tables result.windows }
+    {
+        Layout {
+            jumps: resolve(program),
+            windows: lay(program),
+        }
+    }
+}
