@@ -4,8 +4,9 @@ use Rattle.instructions.specs.declared.Instruction.TheVariants.{Again}
 use Rattle.stack.specs.Held.{held}
 use Rattle.program.specs.Bounds.{bound}
 use Rattle.program.proofs.Around.{around_none}
+use Rattle.brackets.specs.Labelled.{unmarked}
 use Rattle.labels.specs.Kinds.{secrecy}
-use Rattle.labels.specs.Passes.{unmarked, sweep}
+use Rattle.labels.specs.Passes.{sweep}
 use Rattle.labels.specs.Sets.{sets, secret_tables, Grew}
 use Rattle.labels.proofs.Rows.{grew_none, grew_both}
 use Rattle.labels.proofs.Passing.{ahead, around_more, few_more, sweep_more, sweep_end}

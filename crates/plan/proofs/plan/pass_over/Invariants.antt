@@ -1,8 +1,9 @@
 use Rattle.std.proofs.Common.{◌≡◌, [], drop}
 use Rattle.stack.specs.Held.{held}
 use Rattle.program.specs.Openings.{around}
+use Rattle.brackets.specs.Labelled.{unmarked}
 use Rattle.labels.specs.Kinds.{secrecy}
-use Rattle.labels.specs.Passes.{unmarked, sweep}
+use Rattle.labels.specs.Passes.{sweep}
 use Rattle.labels.specs.Sets.{sets, secret_tables, Grew}
 use Rattle.plan.proofs.plan.pass_over.Given as goal
 
