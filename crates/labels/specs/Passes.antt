@@ -6,7 +6,8 @@ use Rattle.program.specs.declared.opening.Marked.{Marked}
 use Rattle.program.specs.Openings.{Before}
 use Rattle.brackets.specs.Labelled.{marked_past}
 use Rattle.labels.specs.Kinds.{LabelKind}
-use Rattle.labels.specs.Rules.{Way, Sub, leaves, mask_of, ways, Solves}
+use Rattle.labels.specs.declared.way.Way.{Way}
+use Rattle.labels.specs.Rules.{Sub, leaves, mask_of, ways, Solves}
 
 -- the innermost opening lies before place p
 abbrev pub Ahead : {L : Type 0} → ℕ → List (Marked L) → Type 0

@@ -12,12 +12,8 @@ use Rattle.program.specs.declared.opening.Opening.TheVariants.{Then, Otherwise, 
 use Rattle.program.specs.declared.opening.Marked.{Marked}
 use Rattle.program.specs.Openings.{around}
 use Rattle.brackets.specs.Labelled.{mark}
+use Rattle.labels.specs.declared.way.Way.{Way}
 use Rattle.labels.specs.Kinds.{LabelKind, Within}
-
--- a way from a place to a place, along which labels go as they are
-pub record Way : Type 0 where
-  pub from : ℕ
-  pub to : ℕ
 
 abbrev pub way : ℕ → ℕ → Way
 way p q = record { from = p; to = q }
