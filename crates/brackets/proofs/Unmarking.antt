@@ -6,7 +6,7 @@ use Rattle.program.specs.declared.opening.Opening.{Opening}
 use Rattle.program.specs.declared.opening.Opening.TheVariants.{Then, Otherwise, Loop}
 use Rattle.program.specs.declared.opening.Marked.{Marked}
 use Rattle.program.specs.Openings.{past}
-use Rattle.brackets.specs.Labelled.{marked_else, marked_end, marked_again, unmarked, passed}
+use Rattle.brackets.specs.Labelled.{marked_else, marked_end, marked_again, unmarked, marked_past}
 
 module _ {L : Type 0} where
   pub as_long : (ks : List (Marked L)) → length (unmarked ks) ≡ length ks
@@ -29,13 +29,13 @@ module _ {L : Type 0} where
   at_again (Loop q) l p ks = refl
 
   -- what is open after an instruction, without labels
-  pub unmarked_passed : (l : L) (ks : List (Marked L)) (p : ℕ) (i : Instruction) → unmarked (passed l p i ks) ≡ past p i (unmarked ks)
-  unmarked_passed l ks p (Do op) = refl
-  unmarked_passed l ks p (If a) = refl
-  unmarked_passed l [] p Else = refl
-  unmarked_passed l (k ∷ ks) p Else = at_else k.opening k.label p ks
-  unmarked_passed l [] p End = refl
-  unmarked_passed l (k ∷ ks) p End = at_end k.opening k.label p ks
-  unmarked_passed l ks p (Repeat a n) = refl
-  unmarked_passed l [] p Again = refl
-  unmarked_passed l (k ∷ ks) p Again = at_again k.opening k.label p ks
+  pub unmarked_past : (l : L) (ks : List (Marked L)) (p : ℕ) (i : Instruction) → unmarked (marked_past l p i ks) ≡ past p i (unmarked ks)
+  unmarked_past l ks p (Do op) = refl
+  unmarked_past l ks p (If a) = refl
+  unmarked_past l [] p Else = refl
+  unmarked_past l (k ∷ ks) p Else = at_else k.opening k.label p ks
+  unmarked_past l [] p End = refl
+  unmarked_past l (k ∷ ks) p End = at_end k.opening k.label p ks
+  unmarked_past l ks p (Repeat a n) = refl
+  unmarked_past l [] p Again = refl
+  unmarked_past l (k ∷ ks) p Again = at_again k.opening k.label p ks

@@ -39,16 +39,16 @@ unmarked [] = []
 unmarked (k ∷ ks) = k.opening ∷ unmarked ks
 
 -- what is open after the instruction at place p: what it opens has label l
-abbrev pub passed : {L : Type 0} → L → ℕ → Instruction → List (Marked L) → List (Marked L)
-passed l p (Do op) ks = ks
-passed l p (If a) ks = mark (Then p a) l ∷ ks
-passed l p Else [] = []
-passed l p Else (k ∷ ks) = marked_else k.opening k.label p ks
-passed l p End [] = []
-passed l p End (k ∷ ks) = marked_end k.opening k.label ks
-passed l p (Repeat a n) ks = mark (Loop p) l ∷ ks
-passed l p Again [] = []
-passed l p Again (k ∷ ks) = marked_again k.opening k.label ks
+abbrev pub marked_past : {L : Type 0} → L → ℕ → Instruction → List (Marked L) → List (Marked L)
+marked_past l p (Do op) ks = ks
+marked_past l p (If a) ks = mark (Then p a) l ∷ ks
+marked_past l p Else [] = []
+marked_past l p Else (k ∷ ks) = marked_else k.opening k.label p ks
+marked_past l p End [] = []
+marked_past l p End (k ∷ ks) = marked_end k.opening k.label ks
+marked_past l p (Repeat a n) ks = mark (Loop p) l ∷ ks
+marked_past l p Again [] = []
+marked_past l p Again (k ∷ ks) = marked_again k.opening k.label ks
 
 -- the opening, where an end closes it
 abbrev pub closed_by_end : {L : Type 0} → Marked L → Opening → Option (Marked L)

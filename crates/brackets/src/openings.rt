@@ -5,7 +5,7 @@ ghost use Rattle.program.specs.declared.refusal.Reason.TheVariants.{TooDeep};
 ghost use Rattle.program.specs.Refusals.{refused_by, unless};
 ghost use Rattle.program.specs.Openings.{past};
 ghost use Rattle.program.specs.Pairing.{wrong, left_open};
-ghost use Rattle.brackets.specs.Labelled.{mark, turned, unmarked, passed, closed};
+ghost use Rattle.brackets.specs.Labelled.{mark, turned, unmarked, marked_past, closed};
 ghost use Rattle.brackets.specs.Nesting.{PairedIsNested};
 
 use instructions::Instruction;
@@ -68,7 +68,7 @@ impl<L: Copy> Openings<L> {
     ) -> Result<Option<Marked<L>>, Refusal>
         ensures answer { refused_by result ≡ wrong (unmarked self.old) place instruction }
         ensures closed { IfOk result (λ c. c ≡ closed instruction self.old) }
-        ensures after { self.new ≡ (if is_ok result then passed label place instruction self.old else self.old) }
+        ensures after { self.new ≡ (if is_ok result then marked_past label place instruction self.old else self.old) }
         ensures bare { unmarked self.new ≡ (if is_ok result then past place instruction (unmarked self.old) else unmarked self.old) }
     {
         let innermost = self.innermost();

@@ -8,8 +8,8 @@ use Rattle.program.specs.declared.opening.Opening.{Opening}
 use Rattle.program.specs.declared.opening.Opening.TheVariants.{Then, Otherwise, Loop}
 use Rattle.program.specs.declared.opening.Marked.{Marked}
 use Rattle.program.specs.Bounds.{bound_op, bound}
+use Rattle.brackets.specs.Labelled.{mark}
 use Rattle.labels.specs.Kinds.{secrecy}
-use Rattle.labels.specs.Rules.{mark}
 use Rattle.labels.specs.Passes.{opens}
 use Rattle.masks.specs.Counts.{secrets_of}
 use Rattle.masks.proofs.Counting.{secrets_le}

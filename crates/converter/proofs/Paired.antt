@@ -1,4 +1,5 @@
 -- A converted program is paired as its source is: secret ifs leave no bracket, the others keep theirs.
+use Rattle.brackets.specs.Labelled.{mark}
 use Rattle.std.proofs.Common.{◌≡◌, ℕ, suc, ◌+◌, ◌≤◌, Bool, true, false, cond, ◌&&◌, ltb, List, [], ◌∷◌, ◌++◌, length, refl, ◌∙◌, arith}
 use Rattle.instructions.specs.declared.Op.{Op}
 use Rattle.instructions.specs.declared.Instruction.{Instruction}
@@ -6,7 +7,6 @@ use Rattle.instructions.specs.declared.Instruction.TheVariants.{Do, If, Else, En
 use Rattle.program.specs.declared.opening.Opening.{Opening}
 use Rattle.program.specs.declared.opening.Opening.TheVariants.{Then, Otherwise, Loop}
 use Rattle.program.specs.declared.opening.Marked.{Marked}
-use Rattle.labels.specs.Rules.{mark}
 use Rattle.masks.specs.Counts.{secrets_of}
 use Rattle.groups.specs.Groups.{straight, mask_at, op_group, if_group, else_group}
 use Rattle.converter.specs.Conversion.{secret_if, convert}

@@ -10,9 +10,11 @@ use Rattle.program.specs.declared.opening.Marked.{Marked}
 use Rattle.program.specs.Openings.{past, around}
 use Rattle.program.specs.Bounds.{bound_op, bound}
 use Rattle.program.proofs.Around.{around_next, around_none, drop_next, drop_at}
+use Rattle.brackets.specs.Labelled.{unmarked}
 use Rattle.labels.specs.Kinds.{LabelKind, Within, Lawful, Rises}
-use Rattle.labels.specs.Rules.{Way, leaves, mask_of, ways, put, Smallest}
-use Rattle.labels.specs.Passes.{unmarked, Ahead, raised, passed, along, flow, opens, sweep, onset, passes, Rising}
+use Rattle.labels.specs.declared.way.Way.{Way}
+use Rattle.labels.specs.Rules.{leaves, mask_of, ways, put, Smallest}
+use Rattle.labels.specs.Passes.{Ahead, raised, passed, along, flow, opens, sweep, onset, passes, Rising}
 use Rattle.labels.proofs.Solving.{Le, sweep_up, rising, reached}
 use Rattle.labels.proofs.Targets.{Targets, within}
 use Rattle.labels.proofs.Passing.{unmarked-opens, ahead, rising_from}

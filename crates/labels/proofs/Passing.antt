@@ -1,41 +1,22 @@
 -- The steps of a pass, as a loop takes them, and where passes begin.
-use Rattle.std.proofs.Common.{◌≡◌, ℕ, zero, suc, ◌+◌, ◌<◌, ◌≤◌, Bool, List, [], ◌∷◌, length, get_or, drop, sym, refl, ap, ◌∙◌, subst, arith}
+use Rattle.std.proofs.Common.{◌≡◌, ℕ, zero, suc, ◌+◌, ◌<◌, ◌≤◌, Bool, List, [], ◌∷◌, length, get_or, drop, sym, ap, ◌∙◌, subst, arith}
 use Rattle.std.proofs.lemmas.List.{at_drop_more, at_drop_all, drop_more}
 use Rattle.instructions.specs.declared.Instruction.{Instruction}
-use Rattle.instructions.specs.declared.Instruction.TheVariants.{Do, If, Else, End, Repeat, Again}
-use Rattle.program.specs.declared.opening.Opening.{Opening}
-use Rattle.program.specs.declared.opening.Opening.TheVariants.{Then, Otherwise, Loop}
+use Rattle.instructions.specs.declared.Instruction.TheVariants.{Again}
 use Rattle.program.specs.declared.opening.Marked.{Marked}
 use Rattle.program.specs.Openings.{past, around}
 use Rattle.program.proofs.Around.{around_next, AllBefore, before_around}
+use Rattle.brackets.specs.Labelled.{unmarked}
+use Rattle.brackets.proofs.Unmarking.{as_long, unmarked_past}
 use Rattle.labels.proofs.Orders.{same, lowest}
 use Rattle.labels.specs.Kinds.{LabelKind, Within, Lawful, secrecy}
 use Rattle.labels.specs.Rules.{Sub, Solves}
-use Rattle.labels.specs.Passes.{marked_else, marked_end, marked_again, unmarked, Ahead, opens, flow, sweep, Rising}
+use Rattle.labels.specs.Passes.{Ahead, labelled, opens, flow, sweep, Rising}
 use Rattle.labels.specs.Sets.{bits, sets}
 use Rattle.labels.proofs.Bits.{bits_zero}
 use Rattle.labels.proofs.Plain.{plain}
 
 module _ {L : Type 0} where
-  at_else : (o : Opening) (l : L) (p : ℕ) (ks : List (Marked L)) → unmarked (marked_else o l p ks) ≡ past p Else (o ∷ unmarked ks)
-  at_else (Then q a) l p ks = refl
-  at_else (Otherwise q a m) l p ks = refl
-  at_else (Loop q) l p ks = refl
-
-  at_end : (o : Opening) (l : L) (p : ℕ) (ks : List (Marked L)) → unmarked (marked_end o l ks) ≡ past p End (o ∷ unmarked ks)
-  at_end (Then q a) l p ks = refl
-  at_end (Otherwise q a m) l p ks = refl
-  at_end (Loop q) l p ks = refl
-
-  at_again : (o : Opening) (l : L) (p : ℕ) (ks : List (Marked L)) → unmarked (marked_again o l ks) ≡ past p Again (o ∷ unmarked ks)
-  at_again (Then q a) l p ks = refl
-  at_again (Otherwise q a m) l p ks = refl
-  at_again (Loop q) l p ks = refl
-
-  length-unmarked : (ks : List (Marked L)) → length ks ≡ length (unmarked ks)
-  length-unmarked [] = refl
-  length-unmarked (k ∷ ks) = ap suc (length-unmarked ks)
-
   top_ahead : (p : ℕ) (ks : List (Marked L)) → AllBefore p (unmarked ks) → Ahead p ks
   top_ahead p [] h = tt
   top_ahead p (k ∷ ks) h = h.0
@@ -45,15 +26,7 @@ module _ {L : Type 0} where
 
 module _ {L : Type 0} (K : LabelKind L) where
   pub unmarked-opens : (A : ℕ → L) (ks : List (Marked L)) (p : ℕ) (i : Instruction) → unmarked (opens K A ks p i) ≡ past p i (unmarked ks)
-  unmarked-opens A ks p (Do op) = refl
-  unmarked-opens A ks p (If a) = refl
-  unmarked-opens A [] p Else = refl
-  unmarked-opens A (k ∷ ks) p Else = at_else k.opening k.label p ks
-  unmarked-opens A [] p End = refl
-  unmarked-opens A (k ∷ ks) p End = at_end k.opening k.label p ks
-  unmarked-opens A ks p (Repeat a k) = refl
-  unmarked-opens A [] p Again = refl
-  unmarked-opens A (k ∷ ks) p Again = at_again k.opening k.label p ks
+  unmarked-opens A ks p i = unmarked_past (labelled K A i) ks p i
 
   module _ (code : List Instruction) (p : ℕ) (ks : List (Marked L)) (i : Instruction) (lt : p < length code) (is : i ≡ get_or code p Again) where
     pub around_more : (A : ℕ → L) → unmarked ks ≡ around code p → unmarked (opens K A ks p i) ≡ around code (p + 1)
@@ -65,7 +38,7 @@ module _ {L : Type 0} (K : LabelKind L) where
 
     pub few_more : (A : ℕ → L) → unmarked ks ≡ around code p → ((q : ℕ) → length (around code q) ≤ 8) → length (opens K A ks p i) ≤ 8
     few_more A e few =
-        let m = length-unmarked (opens K A ks p i) ∙ ap length (around_more A e) in
+        let m = sym (as_long (opens K A ks p i)) ∙ ap length (around_more A e) in
         omega (arith, m, few (p + 1))
 
     pub sweep_more : (tables : ℕ → L) (S : ℕ → ℕ → L) → sweep K tables ks p (drop p code) S ≡ sweep K tables (opens K (S p) ks p i) (p + 1) (drop (p + 1) code) (flow K tables ks p i S)

@@ -11,9 +11,11 @@ use Rattle.program.specs.declared.opening.Marked.{Marked}
 use Rattle.program.specs.Openings.{past, around}
 use Rattle.program.specs.Bounds.{bound_op, bound}
 use Rattle.program.proofs.Around.{around_next, around_none, drop_next, drop_at}
+use Rattle.brackets.specs.Labelled.{unmarked}
 use Rattle.labels.specs.Kinds.{secrecy}
-use Rattle.labels.specs.Rules.{Way, put, leaves, mask_of, ways, Smallest}
-use Rattle.labels.specs.Passes.{unmarked, Ahead, raised, along, flow, opens, sweep, Rising}
+use Rattle.labels.specs.declared.way.Way.{Way}
+use Rattle.labels.specs.Rules.{put, leaves, mask_of, ways, Smallest}
+use Rattle.labels.specs.Passes.{Ahead, raised, along, flow, opens, sweep, Rising}
 use Rattle.labels.specs.Sets.{bits, sets, room, Grew}
 use Rattle.labels.specs.Plans.{number_put, number_leaves, number_raised, numbers_along, numbers_flow, numbers_sweep, settled, labels_of}
 use Rattle.labels.proofs.Bits.{bits_or, bits_in, bits_out}

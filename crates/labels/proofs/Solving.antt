@@ -13,10 +13,12 @@ use Rattle.program.specs.declared.opening.Opening.TheVariants.{Then, Otherwise, 
 use Rattle.program.specs.declared.opening.Marked.{Marked}
 use Rattle.program.specs.Openings.{past, around}
 use Rattle.program.proofs.Around.{around_next, around_none, drop_next}
+use Rattle.brackets.specs.Labelled.{mark, marked_else, marked_end, marked_again}
 use Rattle.labels.proofs.Orders.{same, further, equal, left, right, joined, upward}
 use Rattle.labels.specs.Kinds.{LabelKind, Within, Lawful}
-use Rattle.labels.specs.Rules.{Way, Each, else_ways, mark, Sub, read_by, written, put, leaves, label_of, marked, mask_of, ways, Along, Keeps, Solves, Smallest}
-use Rattle.labels.specs.Passes.{marked_else, marked_end, marked_again, opens, raised, passed, along, flow, sweep, Rising}
+use Rattle.labels.specs.declared.way.Way.{Way}
+use Rattle.labels.specs.Rules.{Each, else_ways, Sub, read_by, written, put, leaves, label_of, marked, mask_of, ways, Along, Keeps, Solves, Smallest}
+use Rattle.labels.specs.Passes.{opens, raised, passed, along, flow, sweep, Rising}
 
 eqb_is : (p q : ℕ) → eqb p q ≡ true → p ≡ q
 eqb_is p q h = grind (arith)

@@ -9,7 +9,8 @@ use Rattle.program.specs.Openings.{around}
 use Rattle.program.proofs.Around.{AllBefore, before_around}
 use Rattle.labels.proofs.Orders.{same, further, equal}
 use Rattle.labels.specs.Kinds.{LabelKind, Within, Lawful}
-use Rattle.labels.specs.Rules.{Way, Each, else_ways, Sub, marked, ways, Along, Keeps, Solves, Smallest}
+use Rattle.labels.specs.declared.way.Way.{Way}
+use Rattle.labels.specs.Rules.{Each, else_ways, Sub, marked, ways, Along, Keeps, Solves, Smallest}
 use Rattle.labels.proofs.Solving.{Le, leaves_mono, less_mask, less_ways, less_marked}
 
 -- a way to another place than 0

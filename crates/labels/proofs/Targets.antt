@@ -7,7 +7,8 @@ use Rattle.program.specs.declared.opening.Opening.TheVariants.{Then, Otherwise, 
 use Rattle.program.specs.declared.opening.Marked.{Marked}
 use Rattle.program.specs.Openings.{Before}
 use Rattle.labels.specs.Kinds.{LabelKind}
-use Rattle.labels.specs.Rules.{Way, Each, else_ways, end_ways, again_ways, ways}
+use Rattle.labels.specs.declared.way.Way.{Way}
+use Rattle.labels.specs.Rules.{Each, else_ways, end_ways, again_ways, ways}
 use Rattle.labels.specs.Passes.{Ahead}
 
 -- all lead to places below n

@@ -2,35 +2,12 @@
 use Rattle.std.specs.Prelude.{ℕ, zero, suc, cond, List, [], ◌∷◌, ◌==◌}
 use Rattle.instructions.specs.declared.Instruction.{Instruction}
 use Rattle.instructions.specs.declared.Instruction.TheVariants.{Do, If, Else, End, Repeat, Again}
-use Rattle.program.specs.declared.opening.Opening.{Opening}
-use Rattle.program.specs.declared.opening.Opening.TheVariants.{Then, Otherwise, Loop}
 use Rattle.program.specs.declared.opening.Marked.{Marked}
 use Rattle.program.specs.Openings.{Before}
+use Rattle.brackets.specs.Labelled.{marked_past}
 use Rattle.labels.specs.Kinds.{LabelKind}
-use Rattle.labels.specs.Rules.{Way, Sub, leaves, mark, mask_of, ways, Solves}
-
--- an else at place p turns an if whose else has not come
-abbrev pub marked_else : {L : Type 0} → Opening → L → ℕ → List (Marked L) → List (Marked L)
-marked_else (Then q a) l p ks = mark (Otherwise q a p) l ∷ ks
-marked_else (Otherwise q a m) l p ks = mark (Otherwise q a m) l ∷ ks
-marked_else (Loop q) l p ks = mark (Loop q) l ∷ ks
-
--- an end closes an if
-abbrev pub marked_end : {L : Type 0} → Opening → L → List (Marked L) → List (Marked L)
-marked_end (Then q a) l ks = ks
-marked_end (Otherwise q a m) l ks = ks
-marked_end (Loop q) l ks = mark (Loop q) l ∷ ks
-
--- an again closes a repeat
-abbrev pub marked_again : {L : Type 0} → Opening → L → List (Marked L) → List (Marked L)
-marked_again (Then q a) l ks = mark (Then q a) l ∷ ks
-marked_again (Otherwise q a m) l ks = mark (Otherwise q a m) l ∷ ks
-marked_again (Loop q) l ks = ks
-
--- openings, without their labels
-abbrev pub unmarked : {L : Type 0} → List (Marked L) → List Opening
-unmarked [] = []
-unmarked (k ∷ ks) = k.opening ∷ unmarked ks
+use Rattle.labels.specs.declared.way.Way.{Way}
+use Rattle.labels.specs.Rules.{Sub, leaves, mask_of, ways, Solves}
 
 -- the innermost opening lies before place p
 abbrev pub Ahead : {L : Type 0} → ℕ → List (Marked L) → Type 0
@@ -38,17 +15,18 @@ Ahead p [] = Unit {0}
 Ahead p (k ∷ ks) = Before p k.opening
 
 module _ {L : Type 0} (K : LabelKind L) where
-  -- what is open after the instruction at place p, where A arrives at it: an if takes its label as it is passed
+  -- the label of what an instruction opens, where A arrives at it: an if takes that of its condition
+  abbrev pub labelled : (ℕ → L) → Instruction → L
+  labelled A (Do op) = K.least
+  labelled A (If a) = A a
+  labelled A Else = K.least
+  labelled A End = K.least
+  labelled A (Repeat a k) = K.least
+  labelled A Again = K.least
+
+  -- what is open after the instruction at place p, where A arrives at it
   abbrev pub opens : (ℕ → L) → List (Marked L) → ℕ → Instruction → List (Marked L)
-  opens A ks p (Do op) = ks
-  opens A ks p (If a) = mark (Then p a) (A a) ∷ ks
-  opens A [] p Else = []
-  opens A (k ∷ ks) p Else = marked_else k.opening k.label p ks
-  opens A [] p End = []
-  opens A (k ∷ ks) p End = marked_end k.opening k.label ks
-  opens A ks p (Repeat a k) = mark (Loop p) K.least ∷ ks
-  opens A [] p Again = []
-  opens A (k ∷ ks) p Again = marked_again k.opening k.label ks
+  opens A ks p i = marked_past (labelled A i) p i ks
 
   -- S, with A joined to the labels at place q
   abbrev pub raised : (ℕ → ℕ → L) → ℕ → (ℕ → L) → ℕ → ℕ → L

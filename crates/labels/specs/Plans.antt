@@ -6,7 +6,8 @@ use Rattle.instructions.specs.declared.Instruction.{Instruction}
 use Rattle.instructions.specs.declared.Instruction.TheVariants.{Do, If, Else, End, Repeat, Again}
 use Rattle.program.specs.declared.opening.Marked.{Marked}
 use Rattle.labels.specs.Kinds.{secrecy}
-use Rattle.labels.specs.Rules.{Way, read_by, written, mask_of, ways}
+use Rattle.labels.specs.declared.way.Way.{Way}
+use Rattle.labels.specs.Rules.{read_by, written, mask_of, ways}
 use Rattle.labels.specs.Passes.{opens}
 use Rattle.labels.specs.Sets.{bits, sets, room}
 

@@ -11,12 +11,9 @@ use Rattle.program.specs.declared.opening.Opening.{Opening}
 use Rattle.program.specs.declared.opening.Opening.TheVariants.{Then, Otherwise, Loop}
 use Rattle.program.specs.declared.opening.Marked.{Marked}
 use Rattle.program.specs.Openings.{around}
+use Rattle.brackets.specs.Labelled.{mark}
+use Rattle.labels.specs.declared.way.Way.{Way}
 use Rattle.labels.specs.Kinds.{LabelKind, Within}
-
--- a way from a place to a place, along which labels go as they are
-pub record Way : Type 0 where
-  pub from : ℕ
-  pub to : ℕ
 
 abbrev pub way : ℕ → ℕ → Way
 way p q = record { from = p; to = q }
@@ -44,10 +41,6 @@ abbrev pub again_ways : Opening → ℕ → List Way
 again_ways (Then q a) p = []
 again_ways (Otherwise q a m) p = []
 again_ways (Loop q) p = way p (suc q) ∷ way p (suc p) ∷ way q (suc p) ∷ []
-
--- an opening, with the label of its condition
-abbrev pub mark : {L : Type 0} → Opening → L → Marked L
-mark o l = record { opening = o; label = l }
 
 module _ {L : Type 0} (K : LabelKind L) where
   -- every register's label in A is within that in B: for plain labels, A is a subset of B

@@ -4,3 +4,4 @@
 pub mod marks;
 pub mod sets;
 pub mod start;
+pub mod way;

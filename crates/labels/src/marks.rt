@@ -1,6 +1,6 @@
 // Openings with the labels of their conditions.
 ghost use Rattle.std.specs.Prelude.{◌≡◌};
-ghost use Rattle.labels.specs.Rules.{mark};
+ghost use Rattle.brackets.specs.Labelled.{mark};
 ghost use Rattle.labels.specs.Theorems.{EveryKind};
 
 use program::opening::{Marked, Opening};

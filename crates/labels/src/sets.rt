@@ -1,18 +1,21 @@
-// Sets of registers as numbers of 16 bits: bit i for register i.
+// Sets of registers as numbers of 16 bits: bit i for register i. They stay plain numbers, since the
+// list of them is one that the caller hands in.
 ghost use Rattle.std.specs.Prelude.{◌≡◌, ◌<◌, ◌||◌, bit_or};
 ghost use Rattle.labels.specs.Kinds.{secrecy};
 ghost use Rattle.labels.specs.Rules.{put};
 ghost use Rattle.labels.specs.Sets.{bits, either};
 
+use instructions::Register;
+
 /// Whether a register is in a set.
-pub fn has(set: u16, register: u8) -> bool
+pub fn has(set: u16, register: Register) -> bool
     ensures { result ≡ bits set register }
 {
     register < 16 && (set >> register) % 2 == 1
 }
 
 /// A set, with the register in it or not in it.
-pub fn with(set: u16, register: u8, secret: bool) -> u16
+pub fn with(set: u16, register: Register, secret: bool) -> u16
     requires { register < 16 }
     ensures { bits result ≡ put secrecy (bits set) register secret }
 {

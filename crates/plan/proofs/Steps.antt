@@ -10,8 +10,7 @@ use Rattle.program.specs.Bounds.{bound}
 use Rattle.program.specs.Pairing.{pairing}
 use Rattle.program.proofs.Around.{few_around}
 use Rattle.labels.specs.Kinds.{secrecy}
-use Rattle.labels.specs.Rules.{way, Smallest}
-use Rattle.labels.specs.Passes.{passed, along}
+use Rattle.labels.specs.Rules.{Smallest}
 use Rattle.labels.specs.Sets.{bits, sets, secret_tables}
 use Rattle.labels.proofs.Plain.{plain}
 use Rattle.labels.proofs.Solving.{unique}
@@ -19,13 +18,6 @@ use Rattle.labels.proofs.Numbers.{same_plan}
 use Rattle.labels.proofs.Reckoning.{reckoned}
 use Rattle.std.proofs.lemmas.List.{get_or-take}
 use Rattle.plan.specs.Planned.{Passable, plan_of}
-
-pub sets_round : (S T U : ℕ → ℕ → Bool) (q p : ℕ) → T ≡ along secrecy (way p (q + 1) ∷ way p (p + 1) ∷ []) S → U ≡ passed secrecy (way q (p + 1)) T
-    → U ≡ along secrecy (way p (suc q) ∷ way p (suc p) ∷ way q (suc p) ∷ []) S
-sets_round S T U q p e f =
-    let x : q + 1 ≡ suc q = omega arith in
-    let y : p + 1 ≡ suc p = omega arith in
-    f ∙ (λ t. passed secrecy (way q (y t)) (e t)) ∙ (λ t. along secrecy (way p (x t) ∷ way p (y t) ∷ way q (suc p) ∷ []) S)
 
 last_mono : (a b c d : Bool) → (c ≡ true → d ≡ true) → (a && (b && c)) ≡ true → (a && (b && d)) ≡ true
 last_mono true true c d f h = f h

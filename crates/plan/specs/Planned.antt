@@ -9,6 +9,7 @@ use Rattle.program.specs.Headers.{is_source}
 use Rattle.program.specs.Bounds.{bound}
 use Rattle.program.specs.Openings.{around}
 use Rattle.program.specs.Refusals.{unless, or_else}
+use Rattle.labels.specs.declared.way.Way.{Way}
 use Rattle.labels.specs.Kinds.{secrecy}
 use Rattle.labels.specs.Rules.{Smallest}
 use Rattle.labels.specs.Sets.{bits, sets, secret_tables}
@@ -31,3 +32,7 @@ Planned (Err e) h code before after = after ≡ before
 pub record Passable (code : List Instruction) : Type 0 where
   pub bounds : (p : ℕ) → p < length code → bound 16 8 (slice_index_or code p Again) ≡ true
   pub few : (p : ℕ) → length (around code p) ≤ 8
+
+-- from and to places below n
+abbrev pub Within : ℕ → Way → Type 0
+Within n w = (w.from < n) × (w.to < n)

@@ -3,3 +3,4 @@
 
 mod flow;
 pub mod plan;
+mod ways;

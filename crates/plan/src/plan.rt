@@ -7,7 +7,7 @@ ghost use Rattle.labels.specs.Passes.{sweep, Rising};
 ghost use Rattle.labels.specs.Sets.{bits, sets, secret_tables, Grew};
 ghost use Rattle.plan.specs.Planned.{plan_refusal, Planned, Passable};
 
-use crate::flow::{either, flow};
+use crate::flow::flow;
 use instructions::Instruction;
 use labels::start::at_start;
 use masks::masks::Masks;
@@ -24,11 +24,10 @@ fn pass_over(code: &[Instruction], tables: &[Table; 8], list: &mut [u16]) -> boo
 {
     let mut masks = Masks::new();
     let mut changed = false;
-    for place in 0..code.len() {
-        let instruction = code[place];
+    for (place, instruction) in code.iter().enumerate() {
         let set = list[place];
-        changed = either(changed, flow(instruction, &masks, list, place, tables));
-        masks.pass(instruction, place, set);
+        changed |= flow(*instruction, &masks, list, place, tables);
+        masks.pass(*instruction, place, set);
     }
     changed
 }
@@ -60,21 +59,12 @@ pub fn plan(program: &Program, list: &mut [u16]) -> Result<(), Refusal>
     ensures list { Planned result program.now.header (take program.now.header.count program.now.list.items) list.old list.new }
 {
     let header = program.header();
-    match header.kind {
-        Kind::Source => (),
-        Kind::Converted => {
-            return Err(Refusal {
-                reason: Reason::NotASource,
-                place: 0,
-            });
-        }
+    if header.kind != Kind::Source {
+        return Err(Reason::NotASource.into());
     }
     let needed = header.count as usize + 1;
     if list.len() < needed {
-        return Err(Refusal {
-            reason: Reason::NoRoomForResult,
-            place: needed,
-        });
+        return Err(Reason::NoRoomForResult.at(needed));
     }
     let part = &mut list[0..needed];
     clear(part, at_start(&header));

@@ -4,8 +4,8 @@ use Rattle.instructions.specs.declared.Instruction.TheVariants.{Again}
 use Rattle.stack.specs.Held.{held}
 use Rattle.program.specs.Bounds.{bound}
 use Rattle.program.proofs.Around.{around_none}
+use Rattle.brackets.specs.Labelled.{unmarked}
 use Rattle.labels.specs.Kinds.{secrecy}
-use Rattle.labels.specs.Passes.{unmarked}
 use Rattle.labels.specs.Sets.{sets, secret_tables}
 use Rattle.labels.proofs.Passing.{around_more, few_more}
 use Rattle.converter.specs.Refusing.{hidden_by, first_wrong}

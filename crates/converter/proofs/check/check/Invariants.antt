@@ -1,7 +1,7 @@
 use Rattle.std.proofs.Common.{◌≡◌, [], drop}
 use Rattle.stack.specs.Held.{held}
 use Rattle.program.specs.Openings.{around}
-use Rattle.labels.specs.Passes.{unmarked}
+use Rattle.brackets.specs.Labelled.{unmarked}
 use Rattle.labels.specs.Sets.{sets, secret_tables}
 use Rattle.converter.specs.Refusing.{hidden_by, first_wrong}
 use Rattle.converter.proofs.check.check.Given as goal

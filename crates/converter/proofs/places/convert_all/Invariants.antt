@@ -1,7 +1,7 @@
 use Rattle.std.proofs.Common.{◌≡◌, ◌*◌, ◌≤◌, [], ◌++◌, drop}
 use Rattle.stack.specs.Held.{held}
 use Rattle.program.specs.Openings.{around}
-use Rattle.labels.specs.Passes.{unmarked}
+use Rattle.brackets.specs.Labelled.{unmarked}
 use Rattle.labels.specs.Sets.{sets}
 use Rattle.groups.specs.Groups.{lengths}
 use Rattle.groups.specs.Outputs.{written}
