@@ -6,7 +6,7 @@ ghost use Rattle.makes.specs.Begun.{Begun};
 use crate::built;
 use crate::make::{Kind, MOST, Make};
 use crate::words::words;
-use layered::layer::Layer;
+use layered::chosen::Chosen;
 use layered::pile::{Layers, Pile};
 use std::alloc::{AllocError, Global};
 use std::fmt;
@@ -35,18 +35,18 @@ fn length(text: &str) -> Option<usize>
     if length <= MOST { Some(length) } else { None }
 }
 
-fn layer(text: &str) -> Option<Layer> {
+fn layer(text: &str) -> Option<Chosen> {
     if text == "scan" {
-        return Some(Layer::Scan);
+        return Some(Chosen::Scan);
     }
     let exponent = text.strip_prefix("line")?.parse::<usize>().ok()?;
-    Some(Layer::Line {
+    Some(Chosen::Line {
         exponent: exponent.min(6) as u32,
     })
 }
 
 // Takes the next layer, if there is one, from the names that are left.
-fn next<'a>(names: Option<&'a str>) -> Option<(Option<Layer>, Option<&'a str>)> {
+fn next<'a>(names: Option<&'a str>) -> Option<(Option<Chosen>, Option<&'a str>)> {
     let Some(text) = names else {
         return Some((None, None));
     };
