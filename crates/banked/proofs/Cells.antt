@@ -1,6 +1,5 @@
 -- The cells of four banks, as one list.
-use Rattle.std.proofs.Common.{◌≡◌, ℕ, zero, suc, ◌+◌, ◌*◌, ◌/◌, ◌%◌, ◌<◌, ◌≢◌, List, [], map, length, get_or, set, replicate, sym, refl, ap, ◌∙◌, ⊎_elim, arith}
-use Rattle.std.specs.List.{range_with_len}
+use Rattle.std.proofs.Common.{◌≡◌, ℕ, zero, suc, ◌+◌, ◌*◌, ◌/◌, ◌%◌, ◌<◌, ◌≢◌, List, [], length, get_or, set, replicate, sym, refl, ap, ◌∙◌, ⊎_elim, arith}
 use Rattle.std.proofs.lemmas.List.FromFn.{length-map-range_with_len, get_or-map-range_with_len}
 use Rattle.std.proofs.lemmas.List.{ext_get_or, length-set, length-replicate, get_or-set_same, get_or-set_other}
 use Rattle.std.proofs.lemmas.Bool.{cases_eq}
@@ -10,17 +9,13 @@ use Rattle.banked.specs.Banks.{word_at, cells_of}
 pub row_below : (c : ℕ) → c < 1024 → c / 4 < 256
 row_below c h = div_below c 4 256 (omega arith) (omega arith)
 
-pub length-cells_of : (banks : List (List ℕ)) → length (cells_of banks) ≡ 1024
+pub length_cells_of : (banks : List (List ℕ)) → length (cells_of banks) ≡ 1024
 unfolding cells_of
-length-cells_of banks = length-map-range_with_len (word_at banks) 0 1024
+length_cells_of banks = length-map-range_with_len (word_at banks) 0 1024
 
-pub get_or-cells_of : (banks : List (List ℕ)) (c : ℕ) → c < 1024 → get_or (cells_of banks) c 0 ≡ word_at banks c
+pub get_cells_of : (banks : List (List ℕ)) (c : ℕ) → c < 1024 → get_or (cells_of banks) c 0 ≡ word_at banks c
 unfolding cells_of
-get_or-cells_of banks c h = get_or-map-range_with_len (word_at banks) 0 1024 c c 0 h (omega arith)
-
-pub in_order : (banks : List (List ℕ)) (n : ℕ) → n ≡ 1024 → map (word_at banks) (range_with_len 0 n) ≡ cells_of banks
-unfolding cells_of
-in_order banks n e = ap (λ m. map (word_at banks) (range_with_len 0 m)) e
+get_cells_of banks c h = get_or-map-range_with_len (word_at banks) 0 1024 c c 0 h (omega arith)
 
 -- the banks with another word at cell c
 abbrev pub put : List (List ℕ) → ℕ → ℕ → List (List ℕ)
@@ -49,14 +44,14 @@ module _ (banks : List (List ℕ)) (four : length banks ≡ 4) (long : (b : ℕ)
       (λ n. ap (λ xs. get_or xs (k / 4) 0) (get_or-set_other banks (c % 4) (k % 4) (set (get_or banks (c % 4) []) (c / 4) word) [] n))
       (cases_eq (k % 4) (c % 4))
 
-  pub cells_of-put : cells_of (put banks c word) ≡ set (cells_of banks) c word
-  cells_of-put =
-      let l = length-cells_of (put banks c word) in
-      let o = length-cells_of banks in
+  pub set_cells_of : cells_of (put banks c word) ≡ set (cells_of banks) c word
+  set_cells_of =
+      let l = length_cells_of (put banks c word) in
+      let o = length_cells_of banks in
       ext_get_or 0 _ _ (l ∙ sym o ∙ sym (length-set (cells_of banks) c word))
-      (λ k lt. get_or-cells_of (put banks c word) k (omega arith)
+      (λ k lt. get_cells_of (put banks c word) k (omega arith)
       ∙ ⊎_elim (λ e. ap (word_at (put banks c word)) e ∙ here ∙ sym (ap (λ i. get_or (set (cells_of banks) c word) i 0) e ∙ get_or-set_same (cells_of banks) c word 0 (omega arith)))
-      (λ n. elsewhere k n ∙ sym (get_or-set_other (cells_of banks) c k word 0 n ∙ get_or-cells_of banks k (omega arith)))
+      (λ n. elsewhere k n ∙ sym (get_or-set_other (cells_of banks) c k word 0 n ∙ get_cells_of banks k (omega arith)))
       (cases_eq k c))
 
 zeros : (n i : ℕ) → ◌≡◌ {A = ℕ} (get_or (replicate n 0) i 0) 0
@@ -74,5 +69,7 @@ zero_at (suc (suc (suc (suc b)))) i = refl
 pub cells_of_new : cells_of (replicate 4 (replicate 256 0)) ≡ replicate 1024 0
 cells_of_new =
     let b : List (List ℕ) = replicate 4 (replicate 256 0) in
-    ext_get_or 0 _ _ (length-cells_of b ∙ sym (length-replicate {A = ℕ} 1024 0))
-    (λ k lt. get_or-cells_of b k (let l = length-cells_of b in omega arith) ∙ zero_at (k % 4) (k / 4) ∙ sym (zeros 1024 k))
+    ext_get_or 0 _ _ (length_cells_of b ∙ sym (length-replicate {A = ℕ} 1024 0))
+    (λ k lt. get_cells_of b k (let l = length_cells_of b in omega arith) ∙ zero_at (k % 4) (k / 4) ∙ sym (zeros 1024 k))
+
+pub ruleset cells = (length_cells_of, row_below, get_cells_of, set_cells_of)

@@ -4,6 +4,7 @@
 
 ghost use Rattle.std.specs.Prelude.{◌≤◌, IfOk};
 
+use layered::leaves::into_cells;
 use layered::pile;
 use layered::pile::Pile;
 use makes::call::Call;
@@ -11,6 +12,7 @@ use makes::named::Unnamed;
 use makes::shown::{Seen, Words};
 use makes::{call, named};
 use memory::Access;
+use memory::window::Window;
 use std::alloc::{AllocError, Global};
 use tally::report::Report;
 
@@ -173,7 +175,7 @@ fn got(heap: Global, block: &mut Block, what: &str) -> Result<Option<String>, Al
         return Ok(None);
     };
     if what == "cells" {
-        let cells = pile::into_leaf(pile).into_cells(heap)?;
+        let cells = into_cells(pile::into_leaf(pile), heap)?;
         return Ok(Some(Words { words: &cells }.to_string(heap)?));
     }
     let text = if what == "seen" {
@@ -215,12 +217,18 @@ fn number(text: &str) -> Option<usize> {
     text.parse::<usize>().ok()
 }
 
+fn table(base: &str, len: &str) -> Option<Window> {
+    Some(Window {
+        first: number(base)?,
+        length: number(len)?,
+    })
+}
+
 fn read(given: &str) -> Option<Call> {
     let (base, rest) = given.split_once(' ')?;
     let (len, off) = rest.split_once(' ')?;
     Some(Call::Read {
-        base: number(base)?,
-        len: number(len)?,
+        table: table(base, len)?,
         off: number(off)?,
     })
 }
@@ -230,8 +238,7 @@ fn write(given: &str) -> Option<Call> {
     let (len, rest) = rest.split_once(' ')?;
     let (off, word) = rest.split_once(' ')?;
     Some(Call::Write {
-        base: number(base)?,
-        len: number(len)?,
+        table: table(base, len)?,
         off: number(off)?,
         word: u32::from_str_radix(word, 16).ok()?,
     })

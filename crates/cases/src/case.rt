@@ -8,6 +8,7 @@ use crate::visits::Visits;
 use counting::most_steps;
 use image::reader;
 use instructions::Instruction;
+use layered::leaves::into_cells;
 use layered::pile::{Pile, into_leaf};
 use machine::visit::{Choice, Visit};
 use makes::named::{make, pile};
@@ -247,7 +248,7 @@ fn ran(
     memory: Pile,
 ) -> Result<String, AllocError> {
     let seen = Seen { memory: &memory }.to_string(heap)?;
-    let cells = into_leaf(memory).into_cells(heap)?;
+    let cells = into_cells(into_leaf(memory), heap)?;
     let cells = Words { words: &cells };
     let words = outcome.registers;
     let registers = Words { words: &words };

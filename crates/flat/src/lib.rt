@@ -1,97 +1,49 @@
-// A memory over cells that are handed in, which shows the number of each cell.
+// Cells that are handed in, which show their numbers.
 #![tactic(auto)]
 
 ghost use Rattle.std.specs.Prelude.{◌≡◌};
-ghost use Rattle.flat.specs.Flat.{flat};
-ghost use Rattle.std.proofs.Common.{rules};
+ghost use Rattle.flat.specs.Flat.{counting, number_of};
 
-use leaf::SeenList;
-use memory::denial::denial;
-use memory::{Access, Mark, Memory};
-use program::refusal::Refusal;
+use leaf::Leaf;
+use leaf::cells::Cells;
+use memory::Mark;
 
 /// The most cells that count.
 const MOST: usize = 65536;
 
+/// Of the cells the first 65,536 count.
 #[derive(Drop)]
 pub struct Flat {
-    cells: Vec<u32>,
-    seen: SeenList,
+    pub cells: Vec<u32>,
 }
 
-impl Flat {
-    /// Of the cells the first 65,536 count. The list for the marks is empty at first: its length, held
-    /// at 1,000,000, is the limit.
-    pub fn new(cells: Vec<u32>, list: Vec<Mark>) -> Flat
-        ensures cells { result.cells ≡ cells }
-        ensures list { result.seen.list ≡ list }
-        ensures empty { result.seen.count ≡ 0 }
-    {
-        Flat {
-            cells,
-            seen: SeenList::new(list),
-        }
-    }
-
-    /// Gives back the cells, and the list with the marks in front.
-    pub fn into_parts(self) -> (Vec<u32>, Vec<Mark>)
-        ensures cells { result.0 ≡ self.cells }
-        ensures list { result.1 ≡ self.seen.list }
-    {
-        let Flat { cells, seen } = self;
-        (cells, seen.into_list())
-    }
+/// Gives back the cells of a memory, and its list with the marks in front.
+pub fn into_parts(memory: Leaf<Flat>) -> (Vec<u32>, Vec<Mark>)
+    ensures cells { result.0 ≡ memory.cells.cells }
+    ensures list { result.1 ≡ memory.seen.list }
+{
+    let (Flat { cells }, list) = memory.into_parts();
+    (cells, list)
 }
 
-impl Memory for Flat {
-    ghost model = { λ m. flat m.cells.items m.seen.list.items m.seen.count };
+impl Cells for Flat {
+    ghost words = { λ flat. counting flat.cells.items };
 
-    ghost lawful = { Prim.search rules };
-
-    fn read(&mut self, base: usize, len: usize, off: usize) -> Result<u32, Refusal> {
-        if let Some(why) = denial(self.size(), base, len, off, 1, self.free()) {
-            return Err(why);
-        }
-        let cell = base + off;
-        self.seen.note(cell as Mark);
-        Ok(self.cells[cell])
-    }
-
-    fn write(&mut self, base: usize, len: usize, off: usize, word: u32) -> Result<(), Refusal> {
-        if let Some(why) = denial(self.size(), base, len, off, 1, self.free()) {
-            return Err(why);
-        }
-        let cell = base + off;
-        self.seen.note(cell as Mark);
-        self.cells[cell] = word;
-        Ok(())
-    }
+    ghost shown = { λ _. number_of };
 
     fn size(&self) -> usize {
         self.cells.len().min(MOST)
     }
 
-    fn free(&self) -> usize {
-        self.seen.free()
+    fn mark(&self, cell: usize) -> Mark {
+        cell as Mark
     }
 
-    fn cost(&self, _access: Access, _len: usize) -> usize {
-        1
+    fn get(&self, cell: usize) -> u32 {
+        self.cells[cell]
     }
 
-    fn hides(&self) -> bool {
-        false
-    }
-
-    fn marks(&self) -> usize {
-        self.seen.marks().len()
-    }
-
-    fn mark(&self, j: usize) -> Option<Mark> {
-        self.seen.mark(j)
-    }
-
-    fn clear(&mut self) {
-        self.seen.clear();
+    fn set(&mut self, cell: usize, word: u32) {
+        self.cells[cell] = word;
     }
 }

@@ -1,4 +1,4 @@
 pub mod Layers
+pub mod Chosen
 pub mod Leaves
 pub mod Piles
-pub mod Scans

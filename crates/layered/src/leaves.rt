@@ -1,104 +1,69 @@
 // A memory with cells of its own, flat or banked.
 ghost use Rattle.std.specs.Prelude.{◌≡◌, IfOk};
-ghost use Rattle.layered.specs.Leaves.{leaf_model};
-ghost use Rattle.std.proofs.Common.{rules};
+ghost use Rattle.layered.specs.Leaves.{leaf_model, words_of, mark_of};
 
 use banked::Banked;
 use flat::Flat;
-use memory::{Access, Mark, Memory};
-use program::refusal::Refusal;
+use leaf::cells::Cells;
+use memory::Mark;
 use std::alloc::{AllocError, Global};
 
 /// The most cells of a flat memory that count.
 const MOST: usize = 65536;
 
+/// Cells of either make.
 #[derive(Drop)]
-pub enum Leaf {
+pub enum LeafCells {
     Flat(Flat),
     Banked(Banked),
 }
 
-impl Leaf {
-    /// Gives the cells that count, in the order of their numbers.
-    pub fn into_cells(self, heap: Global) -> Result<Vec<u32>, AllocError>
-        ensures { IfOk result (λ cells. cells.items ≡ (leaf_model self).cells) }
-    {
-        match self {
-            Leaf::Flat(memory) => {
-                let (mut cells, _) = memory.into_parts();
-                cells.truncate(MOST);
-                Ok(cells)
-            }
-            Leaf::Banked(memory) => memory.into_cells(heap),
+pub type Leaf = leaf::Leaf<LeafCells>;
+
+/// Gives the cells that count, in the order of their numbers.
+pub fn into_cells(leaf: Leaf, heap: Global) -> Result<Vec<u32>, AllocError>
+    ensures { IfOk result (λ cells. cells.items ≡ (leaf_model leaf).cells) }
+{
+    let (cells, _list) = leaf.into_parts();
+    match cells {
+        LeafCells::Flat(Flat { mut cells }) => {
+            cells.truncate(MOST);
+            Ok(cells)
         }
+        LeafCells::Banked(cells) => cells.into_cells(heap),
     }
 }
 
-impl Memory for Leaf {
-    ghost model = { λ m. leaf_model m };
+impl Cells for LeafCells {
+    ghost words = { words_of };
 
-    ghost lawful = { Prim.search rules };
-
-    fn read(&mut self, base: usize, len: usize, off: usize) -> Result<u32, Refusal> {
-        match self {
-            Leaf::Flat(memory) => memory.read(base, len, off),
-            Leaf::Banked(memory) => memory.read(base, len, off),
-        }
-    }
-
-    fn write(&mut self, base: usize, len: usize, off: usize, word: u32) -> Result<(), Refusal> {
-        match self {
-            Leaf::Flat(memory) => memory.write(base, len, off, word),
-            Leaf::Banked(memory) => memory.write(base, len, off, word),
-        }
-    }
+    ghost shown = { mark_of };
 
     fn size(&self) -> usize {
         match self {
-            Leaf::Flat(memory) => memory.size(),
-            Leaf::Banked(memory) => memory.size(),
+            LeafCells::Flat(cells) => cells.size(),
+            LeafCells::Banked(cells) => cells.size(),
         }
     }
 
-    fn free(&self) -> usize {
+    fn mark(&self, cell: usize) -> Mark {
         match self {
-            Leaf::Flat(memory) => memory.free(),
-            Leaf::Banked(memory) => memory.free(),
+            LeafCells::Flat(cells) => cells.mark(cell),
+            LeafCells::Banked(cells) => cells.mark(cell),
         }
     }
 
-    fn cost(&self, access: Access, len: usize) -> usize {
+    fn get(&self, cell: usize) -> u32 {
         match self {
-            Leaf::Flat(memory) => memory.cost(access, len),
-            Leaf::Banked(memory) => memory.cost(access, len),
+            LeafCells::Flat(cells) => cells.get(cell),
+            LeafCells::Banked(cells) => cells.get(cell),
         }
     }
 
-    fn hides(&self) -> bool {
+    fn set(&mut self, cell: usize, word: u32) {
         match self {
-            Leaf::Flat(memory) => memory.hides(),
-            Leaf::Banked(memory) => memory.hides(),
-        }
-    }
-
-    fn marks(&self) -> usize {
-        match self {
-            Leaf::Flat(memory) => memory.marks(),
-            Leaf::Banked(memory) => memory.marks(),
-        }
-    }
-
-    fn mark(&self, j: usize) -> Option<Mark> {
-        match self {
-            Leaf::Flat(memory) => memory.mark(j),
-            Leaf::Banked(memory) => memory.mark(j),
-        }
-    }
-
-    fn clear(&mut self) {
-        match self {
-            Leaf::Flat(memory) => memory.clear(),
-            Leaf::Banked(memory) => memory.clear(),
+            LeafCells::Flat(cells) => cells.set(cell, word),
+            LeafCells::Banked(cells) => cells.set(cell, word),
         }
     }
 }

@@ -1,6 +1,6 @@
 // Piles that are chosen at run time: one type for every pile of up to four layers.
 #![tactic(auto)]
 
-pub mod layer;
+pub mod chosen;
 pub mod leaves;
 pub mod pile;

@@ -3,18 +3,19 @@ ghost use Rattle.std.specs.Prelude.{◌≡◌};
 ghost use Rattle.layered.specs.Leaves.{leaf_model};
 ghost use Rattle.layered.specs.Piles.{pile_model, piled, leaf_of};
 
-use crate::layer::{Layer, Layered};
+use crate::chosen::{Chosen, Layered};
 use crate::leaves::Leaf;
+use layer::Over;
 
 pub type Pile = Layered<Layered<Layered<Layered<Leaf>>>>;
 
 /// The layers of a pile, bottom first.
 #[derive(Clone, Copy)]
 pub struct Layers {
-    pub first: Option<Layer>,
-    pub second: Option<Layer>,
-    pub third: Option<Layer>,
-    pub fourth: Option<Layer>,
+    pub first: Option<Chosen>,
+    pub second: Option<Chosen>,
+    pub third: Option<Chosen>,
+    pub fourth: Option<Chosen>,
 }
 
 /// Puts the layers on a leaf.
@@ -22,10 +23,10 @@ pub fn build(leaf: Leaf, layers: Layers) -> Pile
     ensures model { pile_model result ≡ piled layers (leaf_model leaf) }
     ensures leaf { leaf_of result ≡ leaf }
 {
-    let first = Layered::new(leaf, layers.first);
-    let second = Layered::new(first, layers.second);
-    let third = Layered::new(second, layers.third);
-    Layered::new(third, layers.fourth)
+    let first = Over::new(layers.first, leaf);
+    let second = Over::new(layers.second, first);
+    let third = Over::new(layers.third, second);
+    Over::new(layers.fourth, third)
 }
 
 /// Gives back the leaf.

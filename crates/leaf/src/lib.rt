@@ -1,81 +1,95 @@
-// What memories with cells of their own share: a list for the marks seen, which is handed in.
+// A memory with cells of its own, whatever these are.
 #![tactic(auto)]
 
-ghost use Rattle.std.specs.Prelude.{◌≡◌, ◌+◌, ◌-◌, ◌<◌, ◌≤◌, take, slice_set};
-ghost use Rattle.std.specs.List.{slice_get};
-ghost use Rattle.leaf.specs.Leaves.{limit_of};
+ghost use Rattle.std.specs.Prelude.{◌≡◌};
+ghost use Rattle.leaf.specs.Leaves.{leaf};
+ghost use Rattle.std.proofs.Common.{rules};
 
-use memory::Mark;
+use crate::cells::Cells;
+use crate::seen::SeenList;
+use memory::denial::denial;
+use memory::window::Window;
+use memory::{Access, Mark, Memory};
+use program::refusal::Refusal;
 
-/// The most marks that any list holds.
-const MOST: usize = 1_000_000;
+pub mod cells;
+pub mod seen;
 
-/// A list whose first `count` entries are the marks seen.
+/// Cells, and the marks that were seen of them.
 #[derive(Drop)]
-pub struct SeenList {
-    list: Vec<Mark>,
-    count: usize,
-    ghost room: { count ≤ limit_of list.items },
+pub struct Leaf<C> {
+    cells: C,
+    seen: SeenList,
 }
 
-impl SeenList {
-    /// No marks at first, and room for as many as the list is long.
-    pub fn new(list: Vec<Mark>) -> SeenList
-        ensures list { result.list ≡ list }
-        ensures count { result.count ≡ 0 }
+impl<C: Cells> Leaf<C> {
+    /// The list for the marks is empty at first: its length, held at 1,000,000, is the limit.
+    pub fn new(cells: C, list: Vec<Mark>) -> Leaf<C>
+        ensures cells { result.cells ≡ cells }
+        ensures list { result.seen.list ≡ list }
+        ensures empty { result.seen.count ≡ 0 }
     {
-        SeenList { list, count: 0 }
-    }
-
-    /// How many marks there is room for.
-    pub fn free(&self) -> usize
-        ensures { result ≡ limit_of self.now.list.items - self.now.count }
-    {
-        self.list.len().min(MOST) - self.count
-    }
-
-    /// The marks seen.
-    pub fn marks(&self) -> &[Mark]
-        ensures { result.now ≡ take self.now.count self.now.list.items }
-    {
-        &self.list[0..self.count]
-    }
-
-    /// Mark `j`, where there is one.
-    pub fn mark(&self, j: usize) -> Option<Mark>
-        ensures { result ≡ slice_get (take self.now.count self.now.list.items) j }
-    {
-        if j < self.count {
-            Some(self.list[j])
-        } else {
-            None
+        Leaf {
+            cells,
+            seen: SeenList::new(list),
         }
     }
 
-    /// Appends a mark, where there is room.
-    pub fn note(&mut self, mark: Mark)
-        ensures noted { self.old.count < limit_of self.old.list.items → (self.new.list.items ≡ slice_set self.old.list.items self.old.count mark) × (self.new.count ≡ self.old.count + 1) }
-        ensures full { limit_of self.old.list.items ≤ self.old.count → (self.new.list ≡ self.old.list) × (self.new.count ≡ self.old.count) }
+    /// Gives back the cells, and the list with the marks in front.
+    pub fn into_parts(self) -> (C, Vec<Mark>)
+        ensures cells { result.0 ≡ self.cells }
+        ensures list { result.1 ≡ self.seen.list }
     {
-        if self.free() > 0 {
-            self.list[self.count] = mark;
-            self.count += 1;
-        }
+        let Leaf { cells, seen } = self;
+        (cells, seen.into_list())
+    }
+}
+
+impl<C: Cells> Memory for Leaf<C> {
+    ghost model = { λ m. leaf (C.Cells.shown m.cells) (C.Cells.words m.cells) m.seen.list.items m.seen.count };
+
+    ghost lawful = { Prim.search rules };
+
+    fn read(&mut self, table: Window, off: usize) -> Result<u32, Refusal> {
+        denial(self.size(), table, off, 1, self.free())?;
+        let cell = table.first + off;
+        self.seen.note(self.cells.mark(cell));
+        Ok(self.cells.get(cell))
     }
 
-    /// Forgets all marks.
-    pub fn clear(&mut self)
-        ensures list { self.new.list ≡ self.old.list }
-        ensures count { self.new.count ≡ 0 }
-    {
-        self.count = 0;
+    fn write(&mut self, table: Window, off: usize, word: u32) -> Result<(), Refusal> {
+        denial(self.size(), table, off, 1, self.free())?;
+        let cell = table.first + off;
+        self.seen.note(self.cells.mark(cell));
+        self.cells.set(cell, word);
+        Ok(())
     }
 
-    /// Gives the list back, with the marks in front.
-    pub fn into_list(self) -> Vec<Mark>
-        ensures { result ≡ self.list }
-    {
-        let SeenList { list, count: _ } = self;
-        list
+    fn size(&self) -> usize {
+        self.cells.size()
+    }
+
+    fn free(&self) -> usize {
+        self.seen.free()
+    }
+
+    fn cost(&self, _access: Access, _len: usize) -> usize {
+        1
+    }
+
+    fn hides(&self) -> bool {
+        false
+    }
+
+    fn marks(&self) -> usize {
+        self.seen.marks().len()
+    }
+
+    fn mark(&self, j: usize) -> Option<Mark> {
+        self.seen.mark(j)
+    }
+
+    fn clear(&mut self) {
+        self.seen.clear();
     }
 }

@@ -1,7 +1,8 @@
 -- A line layer answers as the memory below, with each mark divided.
-use Rattle.std.specs.Prelude.{◌≡◌, ℕ, zero, suc, ◌-◌, List, [], ◌∷◌, map, length, Some, None, Option, refl}
+use Rattle.std.specs.Prelude.{◌≡◌, ℕ, ◌-◌, List, map, length, Some, None, Option, refl}
 use Rattle.std.proofs.Common.{sym, ap, ◌∙◌}
 use Rattle.std.proofs.lemmas.List.{length-map, map-append}
+use Rattle.std.proofs.lemmas.Option.{slice_get-map}
 use Rattle.std.specs.List.{slice_get}
 use Rattle.std.specs.Option.{option_map}
 use Rattle.program.specs.declared.refusal.Refusal.{Refusal}
@@ -12,13 +13,14 @@ use Rattle.memory.specs.Laws.{Lawful}
 use Rattle.line.specs.Line.{line_of, line_rules, line_over}
 
 pub nth_map : {X Y : Type 0} (f : X → Y) (xs : List X) (j : ℕ) → slice_get (map f xs) j ≡ option_map f (slice_get xs j)
-nth_map f [] j = refl
-nth_map f (x ∷ xs) zero = refl
-nth_map f (x ∷ xs) (suc j) = nth_map f xs j
+nth_map f xs j = slice_get-map f xs j
 
 module _ (e : ℕ) (d : Description) where
   pub line_free : free d ≡ free (line_over e d)
   line_free = ap (λ n. d.rules.limit - n) (sym (length-map d.seen (line_of e)))
+
+  pub line_counted : length (line_over e d).seen ≡ length d.seen
+  line_counted = length-map d.seen (line_of e)
 
   pub line_denied : (k : Access) (base len off : ℕ) → denied d k base len off ≡ denied (line_over e d) k base len off
   line_denied k base len off = ap (denial (length d.cells) base len off (d.rules.cost k len)) line_free

@@ -1,81 +1,71 @@
 // A layer that shows only the line of each mark below it, as a cache does.
 #![tactic(auto)]
 
-ghost use Rattle.std.specs.Prelude.{◌≡◌, ◌≤◌, min};
-ghost use Rattle.line.specs.Line.{line_over};
-ghost use Rattle.line.specs.Lines.{line_lawful};
+ghost use Rattle.std.specs.Prelude.{◌≡◌, ◌≤◌, min, refl};
 
+use layer::Layer;
+use memory::window::Window;
 use memory::{Access, Mark, Memory};
 use program::refusal::Refusal;
 
 /// Lines of 2 to the exponent.
-#[derive(Drop)]
-pub struct Line<M> {
-    below: M,
+#[derive(Clone, Copy)]
+pub struct Line {
     exponent: u32,
     ghost few: { exponent ≤ 6 },
 }
 
-impl<M: Memory> Line<M> {
+impl Line {
     /// An exponent above 6 counts as 6.
-    pub fn new(below: M, exponent: u32) -> Line<M>
-        ensures below { result.below ≡ below }
-        ensures exponent { result.exponent ≡ min exponent 6 }
+    pub fn new(exponent: u32) -> Line
+        ensures { result.exponent ≡ min exponent 6 }
     {
         Line {
-            below,
             exponent: exponent.min(6),
         }
     }
-
-    /// Gives back the memory below.
-    pub fn into_below(self) -> M
-        ensures { result ≡ self.below }
-    {
-        let Line { below, exponent: _ } = self;
-        below
-    }
 }
 
-impl<M: Memory> Memory for Line<M> {
-    ghost model = { λ m. line_over m.exponent (M.Memory.model m.below) };
+impl Layer for Line {
+    ghost use Rattle.std.proofs.Common.{sym};
+    ghost use Rattle.line.specs.Line.{line_over};
+    ghost use Rattle.line.specs.Lines.{line_lawful, line_free, line_counted};
 
-    ghost lawful = { λ m. line_lawful m.exponent (M.Memory.model m.below) (M.Memory.lawful m.below) };
+    ghost over = { λ line. line_over line.exponent };
 
-    fn read(&mut self, base: usize, len: usize, off: usize) -> Result<u32, Refusal> {
-        self.below.read(base, len, off)
+    ghost lawful = { λ line. line_lawful line.exponent };
+
+    ghost sized = { λ line d. refl };
+
+    ghost freed = { λ line d. sym (line_free line.exponent d) };
+
+    ghost counted = { λ line. line_counted line.exponent };
+
+    ghost clears = { λ line d. refl };
+
+    fn read<M: Memory>(&self, below: &mut M, table: Window, off: usize) -> Result<u32, Refusal> {
+        below.read(table, off)
     }
 
-    fn write(&mut self, base: usize, len: usize, off: usize, word: u32) -> Result<(), Refusal> {
-        self.below.write(base, len, off, word)
+    fn write<M: Memory>(
+        &self,
+        below: &mut M,
+        table: Window,
+        off: usize,
+        word: u32,
+    ) -> Result<(), Refusal> {
+        below.write(table, off, word)
     }
 
-    fn size(&self) -> usize {
-        self.below.size()
+    fn cost<M: Memory>(&self, below: &M, access: Access, len: usize) -> usize {
+        below.cost(access, len)
     }
 
-    fn free(&self) -> usize {
-        self.below.free()
+    fn hides<M: Memory>(&self, below: &M) -> bool {
+        below.hides()
     }
 
-    fn cost(&self, access: Access, len: usize) -> usize {
-        self.below.cost(access, len)
-    }
-
-    fn hides(&self) -> bool {
-        self.below.hides()
-    }
-
-    fn marks(&self) -> usize {
-        self.below.marks()
-    }
-
-    fn mark(&self, j: usize) -> Option<Mark> {
-        let mark = self.below.mark(j)?;
-        Some(mark >> self.exponent)
-    }
-
-    fn clear(&mut self) {
-        self.below.clear();
+    fn mark<M: Memory>(&self, below: &M, j: usize) -> Option<Mark> {
+        below.mark(j).map(|mark| mark >> self.exponent)
     }
 }

@@ -2,6 +2,7 @@
 use flat::Flat;
 use image::reader::read;
 use instructions::Instruction;
+use leaf::Leaf;
 use machine::visit::{Choice, Visit};
 use run::{Outcome, run};
 use std::alloc::{AllocError, Global};
@@ -72,7 +73,7 @@ fn answer(heap: Global, case: &Case) -> Result<(Answer, Vec<Visit>), AllocError>
         place: 9999,
         choice: Choice::Fault,
     }; case.visits]?;
-    let mut memory = Flat::new(cells, seen);
+    let mut memory = Leaf::new(Flat { cells }, seen);
     let mut entry = [0; 16];
     entry[1] = case.word;
     let answer = match read(&image, list) {

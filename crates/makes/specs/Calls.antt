@@ -18,8 +18,8 @@ done_or (Ok done) = Done
 done_or (Err refusal) = Refused refusal
 
 abbrev pub answers : Call → Description → Answer
-answers (Read base len off) d = word_or (read_answer d base len off)
-answers (Write base len off word) d = done_or (write_answer d base len off)
+answers (Read table off) d = word_or (read_answer d table.first table.length off)
+answers (Write table off word) d = done_or (write_answer d table.first table.length off)
 answers (Cost access len) d = Number (d.rules.cost access len)
 answers Free d = Number (free d)
 answers Size d = Number (length d.cells)
@@ -30,8 +30,8 @@ answers Clear d = Done
 
 -- only reads, writes and clearing change anything
 abbrev pub leaves : Call → Description → Description
-leaves (Read base len off) d = read_after d base len off
-leaves (Write base len off word) d = write_after d base len off word
+leaves (Read table off) d = read_after d table.first table.length off
+leaves (Write table off word) d = write_after d table.first table.length off word
 leaves (Cost access len) d = d
 leaves Free d = d
 leaves Size d = d

@@ -1,5 +1,5 @@
 // Piles, made of what fixes them.
-ghost use Rattle.std.specs.Prelude.{◌≡◌, replicate, IfOk};
+ghost use Rattle.std.specs.Prelude.{◌≡◌, IfOk};
 ghost use Rattle.layered.specs.Leaves.{leaf_model};
 ghost use Rattle.layered.specs.Piles.{pile_model, piled};
 ghost use Rattle.makes.specs.Makes.{begins, filled};
@@ -7,10 +7,9 @@ ghost use Rattle.makes.specs.Makes.{begins, filled};
 use crate::make::{Kind, Make};
 use banked::Banked;
 use flat::Flat;
-use layered::leaves::Leaf;
+use layered::leaves::{Leaf, LeafCells};
 use layered::pile;
 use layered::pile::Pile;
-use memory::Mark;
 use std::alloc::{AllocError, Global};
 
 /// Makes the pile. Cells that are missing are 0, and those past the size are left out; a banked
@@ -20,15 +19,6 @@ pub fn build(heap: Global, make: Make, cells: Vec<u32>) -> Result<Pile, AllocErr
 {
     let leaf = leaf(heap, make, cells)?;
     Ok(pile::build(leaf, make.layers))
-}
-
-// A list of so many zeros.
-fn zeros(heap: Global, count: usize) -> Result<Vec<Mark>, AllocError>
-    ensures { IfOk result (λ list. list.items ≡ replicate count 0) }
-{
-    let mut list = Vec::new(heap);
-    list.resize(count, 0)?;
-    Ok(list)
 }
 
 // So many cells, with zeros behind those that are given.
@@ -42,12 +32,11 @@ fn fill(mut cells: Vec<u32>, size: usize) -> Result<Vec<u32>, AllocError>
 fn leaf(heap: Global, make: Make, cells: Vec<u32>) -> Result<Leaf, AllocError>
     ensures { IfOk result (λ l. leaf_model l ≡ begins make.kind make.size make.list cells.items) }
 {
-    let list = zeros(heap, make.list)?;
-    match make.kind {
-        Kind::Flat => {
-            let cells = fill(cells, make.size)?;
-            Ok(Leaf::Flat(Flat::new(cells, list)))
-        }
-        Kind::Banked => Ok(Leaf::Banked(Banked::new(list))),
-    }
+    let cells = match make.kind {
+        Kind::Flat => LeafCells::Flat(Flat {
+            cells: fill(cells, make.size)?,
+        }),
+        Kind::Banked => LeafCells::Banked(Banked::new()),
+    };
+    Ok(Leaf::new(cells, vec![in heap; 0; make.list]?))
 }

@@ -2,6 +2,7 @@
 ghost use Rattle.std.specs.Prelude.{◌≡◌};
 ghost use Rattle.makes.specs.Calls.{word_or, done_or, answers, leaves};
 
+use memory::window::Window;
 use memory::{Access, Mark, Memory};
 use program::refusal::Refusal;
 use std::fmt;
@@ -9,13 +10,11 @@ use std::fmt;
 #[derive(Clone, Copy)]
 pub enum Call {
     Read {
-        base: usize,
-        len: usize,
+        table: Window,
         off: usize,
     },
     Write {
-        base: usize,
-        len: usize,
+        table: Window,
         off: usize,
         word: u32,
     },
@@ -69,13 +68,8 @@ pub fn perform<M: Memory>(memory: &mut M, call: Call) -> Answer
     ensures after { M.model memory.new ≡ leaves call (M.model memory.old) }
 {
     match call {
-        Call::Read { base, len, off } => read(memory.read(base, len, off)),
-        Call::Write {
-            base,
-            len,
-            off,
-            word,
-        } => wrote(memory.write(base, len, off, word)),
+        Call::Read { table, off } => read(memory.read(table, off)),
+        Call::Write { table, off, word } => wrote(memory.write(table, off, word)),
         Call::Cost { access, len } => Answer::Number {
             number: memory.cost(access, len),
         },

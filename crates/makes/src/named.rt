@@ -6,7 +6,7 @@ ghost use Rattle.makes.specs.Begun.{Begun};
 use crate::built;
 use crate::make::{Kind, MOST, Make};
 use crate::words::{WordsError, words};
-use layered::layer::Layer;
+use layered::chosen::Chosen;
 use layered::pile::{Layers, Pile};
 use std::alloc::Global;
 use std::error::Error;
@@ -38,18 +38,18 @@ fn length(text: &str) -> Option<usize>
     text.parse::<usize>().ok().filter(|length| *length <= MOST)
 }
 
-fn layer(text: &str) -> Option<Layer> {
+fn layer(text: &str) -> Option<Chosen> {
     if text == "scan" {
-        return Some(Layer::Scan);
+        return Some(Chosen::Scan);
     }
     let exponent = text.strip_prefix("line")?.parse::<usize>().ok()?;
-    Some(Layer::Line {
+    Some(Chosen::Line {
         exponent: exponent.min(6) as u32,
     })
 }
 
 // The next layer, if a name is left.
-fn next(names: &mut Split<char>) -> Result<Option<Layer>, Unnamed> {
+fn next(names: &mut Split<char>) -> Result<Option<Chosen>, Unnamed> {
     names
         .next()
         .map(|name| layer(name).ok_or(Unnamed::Unreadable))

@@ -1,9 +1,9 @@
 -- Accesses that are accepted, and those that are not.
-use Rattle.std.proofs.Common.{◌≡◌, ℕ, ◌+◌, ◌<◌, ◌≤◌, Bool, true, false, ltb, leb, length, get_or, set, Some, None, Ok, Option, sym, refl, ap, ◌∙◌, arith}
-use Rattle.std.proofs.lemmas.Bool.{lt-ltb, le-leb, lt-leb, ltb-true, leb-true, and_from, and_parts}
+use Rattle.std.proofs.Common.{◌≡◌, ℕ, ◌+◌, ◌≤◌, Bool, true, false, ltb, leb, length, get_or, set, None, Ok, Option, sym, refl, ap, ◌∙◌, arith}
+use Rattle.std.proofs.lemmas.Bool.{lt-ltb, le-leb, ltb-true, leb-true, and_from, and_parts}
 use Rattle.program.specs.declared.refusal.Refusal.{Refusal}
 use Rattle.program.specs.declared.refusal.Reason.TheVariants.{OutsideTable, NoRoomForMarks}
-use Rattle.program.specs.Refusals.{refusal, unless, or_else}
+use Rattle.program.specs.Refusals.{unless, or_else}
 use Rattle.memory.specs.declared.Access.{Access}
 use Rattle.memory.specs.declared.Access.TheVariants.{Read, Write}
 use Rattle.memory.specs.Description.{Description, free, marked}
@@ -11,14 +11,6 @@ use Rattle.memory.specs.Accesses.{inside, denial, denied, answered, left, read_a
 use Rattle.memory.specs.Laws.{Within}
 
 module _ (size base len off cost room : ℕ) where
-  pub denial_outside : inside size base len off ≡ false → denial size base len off cost room ≡ Some (refusal OutsideTable 0)
-  unfolding denial
-  denial_outside e = rw e
-
-  pub denial_full : inside size base len off ≡ true → room < cost → denial size base len off cost room ≡ Some (refusal NoRoomForMarks 0)
-  unfolding denial
-  denial_full e h = let f = lt-leb cost room h in rw (e, f)
-
   pub denial_none : inside size base len off ≡ true → cost ≤ room → denial size base len off cost room ≡ None
   unfolding denial
   denial_none e h = let f = le-leb cost room h in rw (e, f)

@@ -1,41 +1,37 @@
 // Why an access is denied.
-ghost use Rattle.std.specs.Prelude.{◌≡◌, ◌+◌, ◌<◌, ◌≤◌, true, false, is_some};
+ghost use Rattle.std.specs.Prelude.{◌≡◌, ◌+◌, ◌<◌, ◌≤◌, true, is_ok};
+ghost use Rattle.program.specs.Refusals.{refused_by};
 ghost use Rattle.memory.specs.Accesses.{inside, denial};
 
+use crate::window::Window;
 use program::refusal::{Reason, Refusal};
 
-// Whether the offset lies in the table, and the table within the cells.
-fn within(size: usize, base: usize, len: usize, off: usize) -> bool
-    ensures value { result ≡ inside size base len off }
-    ensures bounds { result ≡ true → (off < len) × (base + len ≤ size) }
+// Whether the offset lies in the table, and the table within so many cells.
+fn within(size: usize, table: Window, off: usize) -> bool
+    ensures value { result ≡ inside size table.first table.length off }
+    ensures bounds { result ≡ true → (off < table.length) × (table.first + table.length ≤ size) }
 {
-    off < len && len <= size && base <= size - len
+    off < table.length && table.length <= size && table.first <= size - table.length
 }
 
-/// Why an access to `off` in the table of `len` cells from `base` on is denied, if it is: it goes
-/// outside, or there is no room for the marks that it costs.
+/// Denies an access to `off` in a table where it goes outside, of the table or of so many cells, or
+/// where there is no room for the marks that it costs.
+#[tactic(auto, unfolding(crate::specs::Accesses::denial))]
 pub fn denial(
     size: usize,
-    base: usize,
-    len: usize,
+    table: Window,
     off: usize,
     cost: usize,
     free: usize,
-) -> Option<Refusal>
-    ensures value { result ≡ denial size base len off cost free }
-    ensures bounds { is_some result ≡ false → (off < len) × (base + len ≤ size) × (cost ≤ free) }
+) -> Result<(), Refusal>
+    ensures value { refused_by result ≡ denial size table.first table.length off cost free }
+    ensures bounds { is_ok result ≡ true → (off < table.length) × (table.first + table.length ≤ size) × (cost ≤ free) }
 {
-    if !within(size, base, len, off) {
-        return Some(Refusal {
-            reason: Reason::OutsideTable,
-            place: 0,
-        });
+    if !within(size, table, off) {
+        return Err(Reason::OutsideTable.into());
     }
     if cost > free {
-        return Some(Refusal {
-            reason: Reason::NoRoomForMarks,
-            place: 0,
-        });
+        return Err(Reason::NoRoomForMarks.into());
     }
-    None
+    Ok(())
 }

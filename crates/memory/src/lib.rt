@@ -8,6 +8,7 @@ ghost use Rattle.memory.specs.Description.{Description, free, cleared};
 ghost use Rattle.memory.specs.Accesses.{read_answer, read_after, write_answer, write_after};
 ghost use Rattle.memory.specs.Laws.{Lawful};
 
+use crate::window::Window;
 use program::refusal::Refusal;
 
 pub mod denial;
@@ -23,20 +24,20 @@ pub enum Access {
     Write,
 }
 
-/// A table is the window of `len` cells from `base` on; an access goes to its offset `off`.
+/// Cells in tables: an access goes to the offset `off` of a table.
 pub trait Memory {
     /// The memory as its user sees it.
     ghost model: { Self → Description };
 
-    /// Answers cell `base + off`, and appends what that shows.
-    fn read(&mut self, base: usize, len: usize, off: usize) -> Result<u32, Refusal>
-        ensures answer { result ≡ read_answer (model self.old) base len off }
-        ensures after { model self.new ≡ read_after (model self.old) base len off };
+    /// Answers the cell at `off` in the table, and appends what that shows.
+    fn read(&mut self, table: Window, off: usize) -> Result<u32, Refusal>
+        ensures answer { result ≡ read_answer (model self.old) table.first table.length off }
+        ensures after { model self.new ≡ read_after (model self.old) table.first table.length off };
 
-    /// Sets cell `base + off` only, and appends what that shows.
-    fn write(&mut self, base: usize, len: usize, off: usize, word: u32) -> Result<(), Refusal>
-        ensures answer { result ≡ write_answer (model self.old) base len off }
-        ensures after { model self.new ≡ write_after (model self.old) base len off word };
+    /// Sets the cell at `off` in the table only, and appends what that shows.
+    fn write(&mut self, table: Window, off: usize, word: u32) -> Result<(), Refusal>
+        ensures answer { result ≡ write_answer (model self.old) table.first table.length off }
+        ensures after { model self.new ≡ write_after (model self.old) table.first table.length off word };
 
     /// The number of cells.
     fn size(&self) -> usize

@@ -5,6 +5,6 @@ use Rattle.piles.specs.declared.settings.Operation.{Operation}
 use Rattle.piles.specs.declared.settings.Operation.TheVariants.{Read, Write, Clear}
 
 abbrev pub leaves : Operation → Description → Description
-leaves (Read base len off) d = read_after d base len off
-leaves (Write base len off word) d = write_after d base len off word
+leaves (Read table off) d = read_after d table.first table.length off
+leaves (Write table off word) d = write_after d table.first table.length off word
 leaves Clear d = cleared d

@@ -4,18 +4,17 @@ ghost use Rattle.memory.specs.Laws.{Settled};
 ghost use Rattle.piles.specs.Operations.{leaves};
 
 use memory::Memory;
+use memory::window::Window;
 
 /// An operation that may change a memory.
 #[derive(Clone, Copy)]
 pub enum Operation {
     Read {
-        base: usize,
-        len: usize,
+        table: Window,
         off: usize,
     },
     Write {
-        base: usize,
-        len: usize,
+        table: Window,
         off: usize,
         word: u32,
     },
@@ -28,16 +27,11 @@ pub fn perform<M: Memory>(memory: &mut M, operation: Operation)
     ensures settled { Settled (M.model memory.old) (M.model memory.new) }
 {
     match operation {
-        Operation::Read { base, len, off } => {
-            let _ = memory.read(base, len, off);
+        Operation::Read { table, off } => {
+            let _ = memory.read(table, off);
         }
-        Operation::Write {
-            base,
-            len,
-            off,
-            word,
-        } => {
-            let _ = memory.write(base, len, off, word);
+        Operation::Write { table, off, word } => {
+            let _ = memory.write(table, off, word);
         }
         Operation::Clear => memory.clear(),
     }

@@ -1,51 +1,51 @@
 // What some piles show and refuse.
 use crate::built::{banked_line_scan, flat_scan_line};
-use flat::Flat;
+use flat::{Flat, into_parts};
 use full_scan::FullScan;
+use layer::Over;
+use leaf::Leaf;
+use memory::window::Window;
 use memory::{Mark, Memory};
 use std::test::Fail;
 
 // Whether these are the marks seen.
 fn saw<M: Memory>(memory: &M, marks: &[Mark]) -> bool {
-    for (j, mark) in marks.iter().enumerate() {
-        if memory.mark(j) != Some(*mark) {
-            return false;
-        }
-    }
-    memory.marks() == marks.len() && memory.mark(marks.len()) == None
+    memory.marks() == marks.len()
+        && (0..=marks.len()).all(|j| memory.mark(j) == marks.get(j).copied())
+}
+
+fn table(first: usize, length: usize) -> Window {
+    Window { first, length }
 }
 
 // The word that a read answers, or the number of its refusal.
-fn read<M: Memory>(memory: &mut M, base: usize, len: usize, off: usize) -> (u32, u8) {
-    match memory.read(base, len, off) {
-        Ok(word) => (word, 0),
-        Err(why) => (0, why.number()),
-    }
+fn read<M: Memory>(memory: &mut M, table: Window, off: usize) -> Result<u32, u8> {
+    memory.read(table, off).map_err(|why| why.number())
 }
 
 fn scans<M: Memory>(memory: &mut M) -> bool {
-    read(memory, 0, 4, 3) == (8, 0)
-        && memory.write(0, 4, 3, 9).is_ok()
+    read(memory, table(0, 4), 3) == Ok(8)
+        && memory.write(table(0, 4), 3, 9).is_ok()
         && saw(memory, &[0, 1, 2, 3, 0, 0, 1, 1, 2, 2, 3, 3])
-        && read(memory, 0, 1, 0) == (0, 31)
+        && read(memory, table(0, 1), 0) == Err(31)
 }
 
 #[test]
 fn a_scan_shows_every_offset(rt: HostRuntime) -> Result<(), Fail> {
     let cells = [5, 6, 7, 8].to_vec(rt.alloc())?;
     let list = [0; 12].to_vec(rt.alloc())?;
-    let mut memory = FullScan::new(Flat::new(cells, list));
+    let mut memory = Over::new(FullScan, Leaf::new(Flat { cells }, list));
     assert!(rt; scans(&mut memory));
-    let (cells, _list) = memory.into_below().into_parts();
+    let (cells, _list) = into_parts(memory.into_below());
     assert!(rt; cells.as_slice() == [5, 6, 7, 9].as_slice());
     Ok(())
 }
 
 fn divides<M: Memory>(memory: &mut M) -> bool {
-    let seen = read(memory, 0, 4, 2) == (7, 0) && saw(memory, &[0, 0, 1, 1]);
-    let outside = read(memory, 0, 4, 4) == (0, 30)
-        && read(memory, 0, 0, 0) == (0, 30)
-        && read(memory, usize::MAX, 4, 0) == (0, 30);
+    let seen = read(memory, table(0, 4), 2) == Ok(7) && saw(memory, &[0, 0, 1, 1]);
+    let outside = read(memory, table(0, 4), 4) == Err(30)
+        && read(memory, table(0, 0), 0) == Err(30)
+        && read(memory, table(usize::MAX, 4), 0) == Err(30);
     memory.clear();
     seen && outside && memory.free() == 9
 }
@@ -60,9 +60,9 @@ fn a_line_on_top_divides(rt: HostRuntime) -> Result<(), Fail> {
 }
 
 fn hides<M: Memory>(memory: &mut M) -> bool {
-    memory.write(6, 2, 1, 77).is_ok()
-        && read(memory, 6, 2, 1) == (77, 0)
-        && read(memory, 6, 2, 0) == (0, 0)
+    memory.write(table(6, 2), 1, 77).is_ok()
+        && read(memory, table(6, 2), 1) == Ok(77)
+        && read(memory, table(6, 2), 0) == Ok(0)
         && saw(memory, &[1, 1, 1, 1, 1, 1, 1, 1])
         && memory.hides()
 }

@@ -9,6 +9,8 @@ use banked::Banked;
 use counting::{most_marks, most_steps};
 use flat::Flat;
 use full_scan::FullScan;
+use layer::Over;
+use leaf::Leaf;
 use program::program::Program;
 use std::alloc::Global;
 use std::fmt;
@@ -22,6 +24,11 @@ pub struct Bounds {
     pub scanned: usize,
 }
 
+fn empty(heap: Global) -> Leaf<Flat> {
+    let cells = Vec::new(heap);
+    Leaf::new(Flat { cells }, Vec::new(heap))
+}
+
 /// What a program counts. What an access costs does not depend on cells, so none are needed.
 pub fn bounds_of(heap: Global, program: &Program) -> Bounds
     ensures steps { result.steps ≡ most_steps (code_of program.now) }
@@ -29,9 +36,9 @@ pub fn bounds_of(heap: Global, program: &Program) -> Bounds
     ensures banked { result.banked ≡ result.flat }
     ensures scanned { result.scanned ≡ most_marks (λ access len. held (len * turn_cost (λ a l. 1) access len)) program.now.header.tables (code_of program.now) }
 {
-    let flat = Flat::new(Vec::new(heap), Vec::new(heap));
-    let banked = Banked::new(Vec::new(heap));
-    let scanned = FullScan::new(Flat::new(Vec::new(heap), Vec::new(heap)));
+    let flat = empty(heap);
+    let banked = Leaf::new(Banked::new(), Vec::new(heap));
+    let scanned = Over::new(FullScan, empty(heap));
     Bounds {
         steps: most_steps(program),
         flat: most_marks(program, &flat),

@@ -14,7 +14,7 @@ pub fn fetch<M: Memory>(memory: &mut M, window: Window, off: usize) -> u32
     ensures word { result ≡ slice_index (M.model memory.old).cells (window.first + off) }
     ensures after { M.model memory.new ≡ marked (M.model memory.old) (M.model memory.old).cells ((M.model memory.old).rules.shows Read window.first window.length off) }
 {
-    memory.read(window.first, window.length, off).unwrap()
+    memory.read(window, off).unwrap()
 }
 
 /// Sets the word at an offset of a window.
@@ -23,7 +23,5 @@ pub fn keep<M: Memory>(memory: &mut M, window: Window, off: usize, word: u32)
     requires room { (M.model memory.old).rules.cost Write window.length ≤ free (M.model memory.old) }
     ensures { M.model memory.new ≡ marked (M.model memory.old) (slice_set (M.model memory.old).cells (window.first + off) word) ((M.model memory.old).rules.shows Write window.first window.length off) }
 {
-    memory
-        .write(window.first, window.length, off, word)
-        .unwrap()
+    memory.write(window, off, word).unwrap()
 }

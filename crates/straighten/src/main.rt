@@ -10,6 +10,7 @@ use instructions::Instruction;
 use listing::listing::Listing;
 use listing::refused::Refused;
 use listing::written::WrittenBack;
+use leaf::Leaf;
 use machine::visit::{Choice, Visit};
 use memory::Memory;
 use plan::plan::plan;
@@ -89,7 +90,7 @@ fn show_run(
 ) -> anyhow::Result<()> {
     let heap = rt.alloc();
     let Inputs { entry, cells } = inputs;
-    let mut memory = Flat::new(cells, vec![in heap; 0u32; bounds.flat]?);
+    let mut memory = Leaf::new(Flat { cells }, vec![in heap; 0u32; bounds.flat]?);
     let mut visits = vec![in heap; Visit {
         place: 0,
         choice: Choice::Onward
@@ -105,7 +106,7 @@ fn show_outcome(
     program: &Program,
     outcome: Outcome,
     visits: &[Visit],
-    memory: &Flat,
+    memory: &Leaf<Flat>,
 ) -> anyhow::Result<()> {
     for visit in visits.iter().take(outcome.steps) {
         rt.println(VisitLine { visit: *visit })?;
@@ -118,7 +119,7 @@ fn show_outcome(
     Ok(())
 }
 
-fn show_marks(rt: &HostRuntime, memory: &Flat) -> anyhow::Result<()> {
+fn show_marks(rt: &HostRuntime, memory: &Leaf<Flat>) -> anyhow::Result<()> {
     for j in 0..memory.marks() {
         if let Some(mark) = memory.mark(j) {
             println!(rt; "mark {mark}")?;

@@ -8,7 +8,7 @@ unwrap-word-requires g c =
     let a = c.args in
     let model = g.M.Memory.model in
     let laws = g.met.M.Memory.lawful a.below.now in
-    let turn = read_turn (model a.below.now) laws a.base a.len c.loop-at.at c.loop-at-test.true c.requires.within.fits c.requires.room (model c.loop-at.below) c.loop-at.invariant.0 in
+    let turn = read_turn (model a.below.now) laws a.table.first a.table.length c.loop-at.at c.loop-at-test.true c.requires.within.fits c.requires.room (model c.loop-at.below) c.loop-at.invariant.0 in
     ap is_ok (c.read.ensures.answer ∙ turn.0)
 
 pub loop-at-preserved : goal.loop-at-preserved
@@ -18,7 +18,7 @@ loop-at-preserved g c =
     let model = g.M.Memory.model in
     let d = model a.below.now in
     let laws = g.met.M.Memory.lawful a.below.now in
-    let turn = read_turn d laws a.base a.len n c.loop-at-test.true c.requires.within.fits c.requires.room (model c.loop-at.below) c.loop-at.invariant.0 in
-    let word : c.unwrap-word.result ≡ get_or d.cells (a.base + n) 0 = ok_same c.unwrap-word.ensures (c.read.ensures.answer ∙ turn.0) in
-    let here = λ (e : n ≡ a.off). word ∙ ap (λ i. get_or d.cells (a.base + i) 0) e in
+    let turn = read_turn d laws a.table.first a.table.length n c.loop-at-test.true c.requires.within.fits c.requires.room (model c.loop-at.below) c.loop-at.invariant.0 in
+    let word : c.unwrap-word.result ≡ get_or d.cells (a.table.first + n) 0 = ok_same c.unwrap-word.ensures (c.read.ensures.answer ∙ turn.0) in
+    let here = λ (e : n ≡ a.off). word ∙ ap (λ i. get_or d.cells (a.table.first + i) 0) e in
     (c.read.ensures.after ∙ turn.1, found_next a.off n c.unwrap-word.result c.loop-at.found _ c.chosen-found.result c.loop-at.invariant.1 here c.chosen-found.ensures)

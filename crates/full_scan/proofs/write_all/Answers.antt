@@ -7,7 +7,7 @@ unwrap-old-requires g c =
     let a = c.args in
     let model = g.M.Memory.model in
     let laws = g.met.M.Memory.lawful a.below.now in
-    let read = write_turn_read (model a.below.now) laws a.base a.len c.loop-at.at c.loop-at-test.true c.requires.within.fits a.off a.word c.requires.room (model c.loop-at.below) c.loop-at.invariant in
+    let read = write_turn_read (model a.below.now) laws a.table.first a.table.length c.loop-at.at c.loop-at-test.true c.requires.within.fits a.off a.word c.requires.room (model c.loop-at.below) c.loop-at.invariant in
     ap is_ok (c.read.ensures.answer ∙ read.0)
 
 pub unwrap-requires : goal.unwrap-requires
@@ -17,10 +17,10 @@ unwrap-requires g c =
     let model = g.M.Memory.model in
     let d = model a.below.now in
     let laws = g.met.M.Memory.lawful a.below.now in
-    let read = write_turn_read d laws a.base a.len n c.loop-at-test.true c.requires.within.fits a.off a.word c.requires.room (model c.loop-at.below) c.loop-at.invariant in
+    let read = write_turn_read d laws a.table.first a.table.length n c.loop-at-test.true c.requires.within.fits a.off a.word c.requires.room (model c.loop-at.below) c.loop-at.invariant in
     let old = ok_same c.unwrap-old.ensures (c.read.ensures.answer ∙ read.0) in
     let new = c.chosen.ensures ∙ ap (cond (eqb n a.off) a.word) old in
-    let write = write_turn d laws a.base a.len n c.loop-at-test.true c.requires.within.fits a.off a.word c.requires.room (model c.read.new.self) c.chosen.result (c.read.ensures.after ∙ read.1) new in
+    let write = write_turn d laws a.table.first a.table.length n c.loop-at-test.true c.requires.within.fits a.off a.word c.requires.room (model c.read.new.self) c.chosen.result (c.read.ensures.after ∙ read.1) new in
     ap is_ok (c.write.ensures.answer ∙ write.0)
 
 pub loop-at-preserved : goal.loop-at-preserved
@@ -30,8 +30,8 @@ loop-at-preserved g c =
     let model = g.M.Memory.model in
     let d = model a.below.now in
     let laws = g.met.M.Memory.lawful a.below.now in
-    let read = write_turn_read d laws a.base a.len n c.loop-at-test.true c.requires.within.fits a.off a.word c.requires.room (model c.loop-at.below) c.loop-at.invariant in
+    let read = write_turn_read d laws a.table.first a.table.length n c.loop-at-test.true c.requires.within.fits a.off a.word c.requires.room (model c.loop-at.below) c.loop-at.invariant in
     let old = ok_same c.unwrap-old.ensures (c.read.ensures.answer ∙ read.0) in
     let new = c.chosen.ensures ∙ ap (cond (eqb n a.off) a.word) old in
-    let write = write_turn d laws a.base a.len n c.loop-at-test.true c.requires.within.fits a.off a.word c.requires.room (model c.read.new.self) c.chosen.result (c.read.ensures.after ∙ read.1) new in
+    let write = write_turn d laws a.table.first a.table.length n c.loop-at-test.true c.requires.within.fits a.off a.word c.requires.room (model c.read.new.self) c.chosen.result (c.read.ensures.after ∙ read.1) new in
     c.write.ensures.after ∙ write.1

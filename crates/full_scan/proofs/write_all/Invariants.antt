@@ -8,4 +8,4 @@ use Rattle.full_scan.proofs.write_all.Given as goal
 abbrev pub invariant-loop-at : goal.invariant-loop-at
 invariant-loop-at g l =
     let d = g.M.Memory.model l.initial.below in
-    g.M.Memory.model l.below ≡ marked d (rewritten d.cells l.base l.off l.word l.at) (turns d.rules.shows Write l.base l.len l.at)
+    g.M.Memory.model l.below ≡ marked d (rewritten d.cells l.table.first l.off l.word l.at) (turns d.rules.shows Write l.table.first l.table.length l.at)

@@ -11,6 +11,6 @@ returns g c =
     record {
       one = p;
       other = q;
-      same = λ s e. both_read a.base a.len a.i a.j p q s (alike_same d Read a.base a.len a.i a.j e);
-      hidden = λ s h u v. both_read a.base a.len a.i a.j p q s (alike_hidden d (g.met.M.Memory.lawful a.one.now) Read a.base a.len a.i a.j h u v);
+      same = λ s e. both_read a.table.first a.table.length a.i a.j p q s (alike_same d Read a.table.first a.table.length a.i a.j e);
+      hidden = λ s h u v. both_read a.table.first a.table.length a.i a.j p q s (alike_hidden d (g.met.M.Memory.lawful a.one.now) Read a.table.first a.table.length a.i a.j h u v);
     }

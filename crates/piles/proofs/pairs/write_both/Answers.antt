@@ -11,6 +11,6 @@ returns g c =
     record {
       one = p;
       other = q;
-      same = λ s e. both_write a.base a.len a.i a.j a.v a.w p q s (alike_same d Write a.base a.len a.i a.j e);
-      hidden = λ s h u v. both_write a.base a.len a.i a.j a.v a.w p q s (alike_hidden d (g.met.M.Memory.lawful a.one.now) Write a.base a.len a.i a.j h u v);
+      same = λ s e. both_write a.table.first a.table.length a.i a.j a.v a.w p q s (alike_same d Write a.table.first a.table.length a.i a.j e);
+      hidden = λ s h u v. both_write a.table.first a.table.length a.i a.j a.v a.w p q s (alike_hidden d (g.met.M.Memory.lawful a.one.now) Write a.table.first a.table.length a.i a.j h u v);
     }
