@@ -1,2 +1,2 @@
 pub mod Lines
-pub mod Said
+pub mod Unread

@@ -2,7 +2,7 @@
 ghost use Rattle.std.specs.Prelude.{◌≡◌, ◌≤◌, IfSome, IfOk, vec_len};
 ghost use Rattle.cases.specs.Lines.{line_of};
 
-use crate::outcome::{Outcome, Said};
+use crate::case_error::CaseError;
 use crate::plans::Labels;
 use crate::visits::Visits;
 use counting::most_steps;
@@ -11,14 +11,14 @@ use instructions::Instruction;
 use layered::leaves::into_cells;
 use layered::pile::{Pile, into_leaf};
 use machine::visit::{Choice, Visit};
-use makes::named::{make, pile};
+use makes::make::Make;
+use makes::named::pile;
 use makes::shown::{Seen, Words};
 use makes::words::words;
 use memory::Memory;
 use plan::plan::plan;
 use program::header::Kind;
 use program::program::Program;
-use program::refusal::Refusal;
 use std::alloc::{AllocError, Global};
 use tally::report::Report;
 use trials::answer::Answer;
@@ -53,26 +53,20 @@ impl<'a> Case<'a> {
     }
 
     // What is given under a name.
-    fn value(self, name: &str) -> Option<&'a str> {
-        for word in self.given.split(' ') {
-            if let Some((before, value)) = word.split_once('=') {
-                if before == name {
-                    return Some(value);
-                }
-            }
-        }
-        None
+    fn value(self, name: &str) -> Result<&'a str, CaseError> {
+        self.given
+            .split(' ')
+            .find_map(|word| word.strip_prefix(name)?.strip_prefix('='))
+            .ok_or(CaseError::Unreadable)
     }
 
     /// The length of a list that is given under a name.
-    pub fn length(self, name: &str) -> Option<usize>
-        ensures { IfSome result (λ n. n ≤ 2000000) }
+    pub fn length(self, name: &str) -> Result<usize, CaseError>
+        ensures { IfOk result (λ n. n ≤ 2000000) }
     {
-        let length = self.value(name)?.parse::<usize>().ok()?;
-        if length <= LONGEST_LIST {
-            Some(length)
-        } else {
-            None
+        match self.value(name)?.parse::<usize>() {
+            Ok(length) if length <= LONGEST_LIST => Ok(length),
+            _ => Err(CaseError::Unreadable),
         }
     }
 }
@@ -103,7 +97,11 @@ fn run_case(
 ) -> Result<(), AllocError>
     ensures { vec_len report.old.notes ≤ 3 → vec_len report.new.notes ≤ 3 }
 {
-    let got = came(heap, room, case)?;
+    let got = match came(heap, room, case) {
+        Ok(answer) => answer,
+        Err(CaseError::OutOfMemory) => return Err(AllocError),
+        Err(why) => why.to_string(heap)?,
+    };
     if got.as_str() == case.expected {
         report.tally.count(true);
         return Ok(());
@@ -115,130 +113,78 @@ fn run_case(
 }
 
 // What came of a case, in the words of the case files.
-fn came(heap: Global, room: &mut Room, case: Case) -> Result<String, AllocError> {
+fn came(heap: Global, room: &mut Room, case: Case) -> Result<String, CaseError> {
     match case.kind {
         "read" => read(heap, room, case),
         "write" => write(heap, room, case),
         "plan" => plan_case(heap, case),
         "run" => run_program(heap, case),
-        _ => Outcome::UnknownKind.to_string(heap),
+        _ => Err(CaseError::UnknownKind),
     }
 }
 
-fn read(heap: Global, room: &mut Room, case: Case) -> Result<String, AllocError> {
-    let Some(cap) = image_and_cap(room, case)? else {
-        return Outcome::Unreadable.to_string(heap);
-    };
-    let answer = room.read(cap)?;
-    let said = Said { answer };
-    match (answer, program_of(heap, case)?) {
-        (Answer::Read { .. }, Some(program)) => {
-            let most = most_steps(&program);
-            format!(in heap; "{said} most={most}")
+fn read(heap: Global, room: &mut Room, case: Case) -> Result<String, CaseError> {
+    room.take_image(case.value("img")?)?;
+    let answer = room.read(case.length("cap")?)?;
+    match answer {
+        Answer::Read { .. } => {
+            let most = most_steps(&program_of(heap, case)?);
+            Ok(format!(in heap; "{answer} most={most}")?)
         }
-        _ => said.to_string(heap),
+        _ => Ok(answer.to_string(heap)?),
     }
 }
 
-fn write(heap: Global, room: &mut Room, case: Case) -> Result<String, AllocError> {
-    match image_and_cap(room, case)? {
-        Some(cap) => {
-            let answer = room.write(cap)?;
-            Outcome::Answered { answer }.to_string(heap)
-        }
-        None => Outcome::Unreadable.to_string(heap),
-    }
+fn write(heap: Global, room: &mut Room, case: Case) -> Result<String, CaseError> {
+    room.take_image(case.value("img")?)?;
+    let answer = room.write(case.length("cap")?)?;
+    Ok(answer.to_string(heap)?)
 }
 
-// Takes in the case's image, and gives the length of the list to hand in.
-fn image_and_cap(room: &mut Room, case: Case) -> Result<Option<usize>, AllocError> {
-    let Some(text) = case.value("img") else {
-        return Ok(None);
-    };
-    if room.take_image(text)? {
-        Ok(case.length("cap"))
-    } else {
-        Ok(None)
-    }
-}
-
-// The program of the case's image, if there is one.
-fn program_of(heap: Global, case: Case) -> Result<Option<Program>, AllocError> {
-    let Some(text) = case.value("img") else {
-        return Ok(None);
-    };
-    let mut image = Vec::new(heap);
-    if !hexadecimal::decode(text.as_bytes(), &mut image)? {
-        return Ok(None);
-    }
+// The program of the case's image; an image that is refused counts as one that cannot be read.
+fn program_of(heap: Global, case: Case) -> Result<Program, CaseError> {
+    let image = hexadecimal::decode(heap, case.value("img")?.as_bytes())?;
     let list = vec![in heap; Instruction::Again; Kind::Converted.longest() as usize]?;
-    Ok(reader::read(&image, list).ok())
+    reader::read(&image, list).map_err(|_| CaseError::Unreadable)
 }
 
-fn refused(heap: Global, refusal: Refusal) -> Result<String, AllocError> {
-    let answer = Answer::Refused { refusal };
-    Said { answer }.to_string(heap)
-}
-
-fn plan_case(heap: Global, case: Case) -> Result<String, AllocError> {
-    let (Some(program), Some(cap)) = (program_of(heap, case)?, case.length("cap")) else {
-        return Outcome::Unreadable.to_string(heap);
-    };
-    let mut list = vec![in heap; 0xa5a5u16; cap]?;
-    match plan(&program, &mut list) {
-        Ok(()) => {
-            list.truncate((program.header().count as usize).saturating_add(1));
-            let labels = Labels { labels: &list };
-            format!(in heap; "ok {labels}")
-        }
-        Err(refusal) => refused(heap, refusal),
-    }
+fn plan_case(heap: Global, case: Case) -> Result<String, CaseError> {
+    let program = program_of(heap, case)?;
+    let mut list = vec![in heap; 0xa5a5u16; case.length("cap")?]?;
+    plan(&program, &mut list)?;
+    list.truncate((program.header().count as usize).saturating_add(1));
+    let labels = Labels { labels: &list };
+    Ok(format!(in heap; "ok {labels}")?)
 }
 
 // The memory that the case names, with its cells.
-fn pile_of(heap: Global, case: Case) -> Result<Option<Pile>, AllocError> {
-    let (Some(name), Some(cells)) = (case.value("mem"), case.value("cells")) else {
-        return Ok(None);
-    };
-    match make(name) {
-        Ok(make) => pile(heap, make, cells),
-        Err(_) => Ok(None),
-    }
+fn pile_of(heap: Global, case: Case) -> Result<Pile, CaseError> {
+    let make: Make = case.value("mem")?.parse()?;
+    Ok(pile(heap, make, case.value("cells")?)?)
 }
 
 // The entry registers that the case gives.
-fn entry_of(heap: Global, case: Case) -> Result<Option<[u32; 16]>, AllocError> {
-    let Some(text) = case.value("regs") else {
-        return Ok(None);
-    };
-    let Some(given) = words(heap, text)? else {
-        return Ok(None);
-    };
-    let mut entry = [0u32; 16];
-    for i in 0..given.len().min(16) {
-        entry[i] = given[i];
+fn entry_of(heap: Global, case: Case) -> Result<[u32; 16], CaseError> {
+    let given = words(heap, case.value("regs")?)?;
+    let mut entry = [0; 16];
+    for (register, word) in entry.iter_mut().zip(&given) {
+        *register = *word;
     }
-    Ok(Some(entry))
+    Ok(entry)
 }
 
-fn run_program(heap: Global, case: Case) -> Result<String, AllocError> {
-    let (Some(program), Some(mut memory)) = (program_of(heap, case)?, pile_of(heap, case)?) else {
-        return Outcome::Unreadable.to_string(heap);
-    };
-    let (Some(entry), Some(room)) = (entry_of(heap, case)?, case.length("vcap")) else {
-        return Outcome::Unreadable.to_string(heap);
-    };
-    let mut visits = vec![in heap; Visit {
+fn run_program(heap: Global, case: Case) -> Result<String, CaseError> {
+    let program = program_of(heap, case)?;
+    let mut memory = pile_of(heap, case)?;
+    let entry = entry_of(heap, case)?;
+    let unvisited = Visit {
         place: 0,
-        choice: Choice::Onward
-    }; room]?;
-    match run::run(&program, &mut memory, &entry, &mut visits) {
-        Ok(outcome) => {
-            visits.truncate(outcome.steps);
-            ran(heap, outcome, &visits, memory)
-        }
-        Err(refusal) => refused(heap, refusal),
-    }
+        choice: Choice::Onward,
+    };
+    let mut visits = vec![in heap; unvisited; case.length("vcap")?]?;
+    let outcome = run::run(&program, &mut memory, &entry, &mut visits)?;
+    visits.truncate(outcome.steps);
+    Ok(ran(heap, outcome, &visits, memory)?)
 }
 
 fn ran(

@@ -2,7 +2,7 @@
 #![tactic(auto)]
 
 pub mod case;
+pub mod case_error;
 pub mod named;
-pub mod outcome;
 pub mod plans;
 pub mod visits;

@@ -13,9 +13,9 @@ impl fmt::Display for Named<'_> {
     fn fmt<W: fmt::Write>(&self, f: &mut fmt::Formatter<W>) -> fmt::Result {
         let name = self.name;
         let tally = self.report.tally;
-        write!(f, "{name} {tally}\n")?;
+        writeln!(f, "{name} {tally}")?;
         for note in self.report.notes.iter() {
-            write!(f, "  {note}\n")?;
+            writeln!(f, "  {note}")?;
         }
         Ok(())
     }

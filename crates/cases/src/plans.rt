@@ -9,12 +9,12 @@ pub struct Labels<'a> {
 
 impl fmt::Display for Labels<'_> {
     fn fmt<W: fmt::Write>(&self, f: &mut fmt::Formatter<W>) -> fmt::Result {
-        for (place, set) in self.labels.iter().enumerate() {
-            if place > 0 {
-                f.write_str(",")?;
-            }
-            let set = *set;
-            write!(f, "{set:x}")?;
+        let mut labels = self.labels.iter();
+        if let Some(first) = labels.next() {
+            write!(f, "{first:x}")?;
+        }
+        for set in labels {
+            write!(f, ",{set:x}")?;
         }
         Ok(())
     }

@@ -1,13 +1,13 @@
 -- What trials answer.
-use Rattle.std.specs.Prelude.{ℕ, Bool, cond, List, length, take, drop, Some, None, Ok, Err, Option, Result, ◌==◌, nat_lt}
+use Rattle.std.specs.Prelude.{ℕ, Bool, cond, List, ◌++◌, length, take, drop, Some, None, Ok, Err, Option, Result, ◌==◌, nat_lt, codes, decimal}
 use Rattle.std.specs.List.{list_all}
 use Rattle.std.specs.Str.{bytes_eq}
 use Rattle.program.specs.declared.refusal.Refusal.{Refusal}
 use Rattle.program.specs.declared.refusal.Reason.TheVariants.{NoRoomForImage}
 use Rattle.program.specs.declared.header.Kind.TheVariants.{Converted}
-use Rattle.program.specs.Refusals.{refusal}
+use Rattle.program.specs.Refusals.{refusal, number_of}
 use Rattle.program.specs.Headers.{longest}
-use Rattle.header.specs.Layout.{header_at}
+use Rattle.header.specs.Layout.{header_at, kind_code}
 use Rattle.image.specs.Images.{read_refusal}
 use Rattle.trials.specs.declared.answer.Answer.{Answer}
 use Rattle.trials.specs.declared.answer.Answer.TheVariants.{Read, Written, Refused, OtherBytes, Disturbed}
@@ -37,3 +37,11 @@ untouched = list_all (λ b. b == 165)
 abbrev pub judged : Result ℕ Refusal → List ℕ → List ℕ → Answer
 judged (Ok n) out image = cond (untouched (drop n out)) (cond (bytes_eq (take n out) image) (Written n) OtherBytes) Disturbed
 judged (Err e) out image = cond (untouched out) (Refused e) Disturbed
+
+-- in the words of the case files
+abbrev pub answer_text : Answer → List ℕ
+answer_text (Read kind count) = codes "ok kind=" ++ (decimal (kind_code kind) ++ (codes " n=" ++ decimal count))
+answer_text (Written length) = codes "ok " ++ decimal length
+answer_text (Refused e) = codes "refused " ++ (decimal (number_of e.reason) ++ (codes " " ++ decimal e.place))
+answer_text OtherBytes = codes "altered"
+answer_text Disturbed = codes "disturbed"

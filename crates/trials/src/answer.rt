@@ -1,10 +1,11 @@
 // What a trial answers.
-ghost use Rattle.std.specs.Prelude.{◌≡◌, if◌then◌else◌};
+ghost use Rattle.std.specs.Prelude.{◌≡◌, Some, if◌then◌else◌};
 ghost use Rattle.trials.specs.declared.answer.Answer.TheVariants.{Written, OtherBytes, Disturbed};
-ghost use Rattle.trials.specs.Answers.{untouched, judged};
+ghost use Rattle.trials.specs.Answers.{untouched, judged, answer_text};
 
 use program::header::Kind;
 use program::refusal::Refusal;
+use std::fmt;
 
 /// What stands in a byte list before something is written into it.
 pub const UNTOUCHED: u8 = 0xa5;
@@ -18,6 +19,27 @@ pub enum Answer {
     OtherBytes,
     /// Bytes changed that had to stay.
     Disturbed,
+}
+
+impl fmt::Display for Answer {
+    ghost output = { λ a. Some (answer_text a) };
+
+    fn fmt<W: fmt::Write>(&self, f: &mut fmt::Formatter<W>) -> fmt::Result {
+        match *self {
+            Answer::Read { kind, count } => {
+                let kind = kind as u8;
+                write!(f, "ok kind={kind} n={count}")
+            }
+            Answer::Written { length } => write!(f, "ok {length}"),
+            Answer::Refused { refusal } => {
+                let number = refusal.number();
+                let place = refusal.place;
+                write!(f, "refused {number} {place}")
+            }
+            Answer::OtherBytes => f.write_str("altered"),
+            Answer::Disturbed => f.write_str("disturbed"),
+        }
+    }
 }
 
 /// The answer of writing an image, once the bytes are looked at: those written are the image's,
