@@ -84,7 +84,8 @@ const REPEAT: Row = Row {
     k: Bound::Rounds,
 };
 
-const BARE: Row = Row {
+/// The row of an op that uses no field.
+pub const BARE: Row = Row {
     d: Bound::Unused,
     a: Bound::Unused,
     b: Bound::Unused,

@@ -1,9 +1,7 @@
--- Instructions, refusals and tables as text.
+-- Instructions and tables as text.
 use Rattle.std.specs.Prelude.{ℕ, Bool, true, false, List, [], ◌++◌, codes, decimal}
 use Rattle.instructions.specs.declared.Instruction.{Instruction}
-use Rattle.program.specs.declared.refusal.Refusal.{Refusal}
 use Rattle.program.specs.declared.header.Table.{Table}
-use Rattle.program.specs.Refusals.{number_of}
 use Rattle.fields.specs.declared.rows.Bound.{Bound}
 use Rattle.fields.specs.declared.rows.Bound.TheVariants.{Unused, Register, Table as TableNumber, Word, Shift, Rounds}
 use Rattle.fields.specs.Rows.{row_of}
@@ -27,10 +25,6 @@ wording i =
     ++ (operand_text (row_of (encode i).op).a (encode i).a
     ++ (operand_text (row_of (encode i).op).b (encode i).b
     ++ operand_text (row_of (encode i).op).k (encode i).k)))
-
--- a refusal by its number and place
-abbrev pub refusal_text : Refusal → List ℕ
-refusal_text e = codes "refused " ++ (decimal (number_of e.reason) ++ (codes " at " ++ decimal e.place))
 
 abbrev pub label_text : Bool → List ℕ
 label_text true = codes "secret"

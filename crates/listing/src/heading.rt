@@ -2,7 +2,7 @@
 ghost use Rattle.std.specs.Prelude.{◌≡◌, Some};
 ghost use Rattle.listing.specs.Wording.{label_text, table_text};
 
-use outline::names;
+use labels::sets::has;
 use program::header::{Header, Table};
 use std::fmt;
 
@@ -10,18 +10,18 @@ use std::fmt;
 #[derive(Clone, Copy)]
 pub struct Sizes {
     pub header: Header,
-    pub cells: u32,
 }
 
 impl fmt::Display for Sizes {
     fn fmt<W: fmt::Write>(&self, f: &mut fmt::Formatter<W>) -> fmt::Result {
-        let kind = names::kind_name(self.header.kind);
-        let count = self.header.count;
-        let used = self.header.used;
-        let cells = self.cells;
+        let header = self.header;
         write!(
             f,
-            "{kind}: instructions {count}, tables {used}, cells {cells}"
+            "{}: instructions {}, tables {}, cells {}",
+            header.kind,
+            header.count,
+            header.used,
+            header.first_cell(8)
         )
     }
 }
@@ -38,7 +38,7 @@ impl fmt::Display for RegisterSet {
             return f.write_str(" none");
         }
         for register in 0..16u8 {
-            if self.registers >> register & 1 == 1 {
+            if has(self.registers, register) {
                 write!(f, " r{register}")?;
             }
         }
@@ -61,11 +61,7 @@ impl fmt::Display for TableLine {
         let number = self.number;
         let first = self.first;
         let length = self.table.length;
-        let label = if self.table.secret {
-            "secret"
-        } else {
-            "public"
-        };
+        let label = label(self.table.secret);
         write!(
             f,
             "table t{number}: first cell {first}, length {length}, {label}"

@@ -1,9 +1,8 @@
-// Programs and refusals as text for people.
+// Programs as text for people.
 #![tactic(auto)]
 
 pub mod heading;
 pub mod label;
 pub mod line;
 pub mod listing;
-pub mod refused;
 pub mod written;

@@ -3,8 +3,9 @@ ghost use Rattle.std.specs.Prelude.{◌≡◌, Some};
 ghost use Rattle.fields.specs.Rows.{row_of};
 ghost use Rattle.listing.specs.Wording.{operand_text, wording};
 
+use fields::fields::Fields;
+use fields::rows;
 use fields::rows::{Bound, Row};
-use fields::{codec, rows};
 use instructions::Instruction;
 use outline::names;
 use std::fmt;
@@ -33,15 +34,7 @@ impl fmt::Display for Operand {
 fn row(op: u8) -> Row
     ensures { result ≡ row_of op }
 {
-    match rows::row_of(op) {
-        Some(row) => row,
-        None => Row {
-            d: Bound::Unused,
-            a: Bound::Unused,
-            b: Bound::Unused,
-            k: Bound::Unused,
-        },
-    }
+    rows::row_of(op).unwrap_or(rows::BARE)
 }
 
 /// An instruction in words: its op's name, and the fields that the op uses, in the order of the
@@ -55,20 +48,20 @@ impl fmt::Display for Worded {
     ghost output = { λ w. Some (wording w.instruction) };
 
     fn fmt<W: fmt::Write>(&self, f: &mut fmt::Formatter<W>) -> fmt::Result {
-        let fields = codec::fields_of(self.instruction);
+        let fields = Fields::from(self.instruction);
         let row = row(fields.op);
         let name = names::name_of(self.instruction);
         let d = Operand {
             bound: row.d,
-            value: fields.d as u32,
+            value: u32::from(fields.d),
         };
         let a = Operand {
             bound: row.a,
-            value: fields.a as u32,
+            value: u32::from(fields.a),
         };
         let b = Operand {
             bound: row.b,
-            value: fields.b as u32,
+            value: u32::from(fields.b),
         };
         let k = Operand {
             bound: row.k,

@@ -4,17 +4,16 @@ use crate::label::SecretNote;
 use crate::line::Line;
 use instructions::Instruction;
 use labels::sets::has;
-use outline::{depth, tables};
+use outline::depth;
 use program::program::Program;
 use std::fmt;
 
 /// A program, to be shown: its header, its tables, and each instruction on a line. Labels are the
-/// secret registers on arriving at each place, as a plan writes them; an empty list where there are
-/// none to show.
+/// secret registers on arriving at each place, as a plan writes them, if there are any to show.
 #[derive(Clone, Copy)]
 pub struct Listing<'a> {
     pub program: &'a Program,
-    pub labels: &'a [u16],
+    pub labels: Option<&'a [u16]>,
 }
 
 impl fmt::Display for Listing<'_> {
@@ -27,10 +26,7 @@ impl fmt::Display for Listing<'_> {
 
 fn write_heading<W: fmt::Write>(program: &Program, f: &mut fmt::Formatter<W>) -> fmt::Result {
     let header = program.header();
-    let sizes = Sizes {
-        header,
-        cells: tables::first_cell(program, 8),
-    };
+    let sizes = Sizes { header };
     let secrets = RegisterSet {
         registers: header.secret_entry,
     };
@@ -39,11 +35,12 @@ fn write_heading<W: fmt::Write>(program: &Program, f: &mut fmt::Formatter<W>) ->
 
 fn write_tables<W: fmt::Write>(program: &Program, f: &mut fmt::Formatter<W>) -> fmt::Result {
     let header = program.header();
-    for number in 0..(header.used as usize).min(8) {
+    let used = usize::from(header.used);
+    for (number, table) in header.tables.iter().take(used).enumerate() {
         let line = TableLine {
             number,
-            first: tables::first_cell(program, number),
-            table: header.tables[number],
+            first: header.first_cell(number),
+            table: *table,
         };
         write!(f, "{line}\n")?;
     }
@@ -52,7 +49,7 @@ fn write_tables<W: fmt::Write>(program: &Program, f: &mut fmt::Formatter<W>) -> 
 
 fn write_code<W: fmt::Write>(
     code: &[Instruction],
-    labels: &[u16],
+    labels: Option<&[u16]>,
     f: &mut fmt::Formatter<W>,
 ) -> fmt::Result {
     let mut around = 0;
@@ -69,8 +66,11 @@ fn write_code<W: fmt::Write>(
     Ok(())
 }
 
-fn note_at(labels: &[u16], place: usize, instruction: Instruction) -> SecretNote {
-    let secret = labels.get(place).copied().unwrap_or(0);
+fn note_at(labels: Option<&[u16]>, place: usize, instruction: Instruction) -> SecretNote {
+    let secret = labels
+        .and_then(|labels| labels.get(place))
+        .copied()
+        .unwrap_or(0);
     let branches = match instruction {
         Instruction::If { condition } => has(secret, condition),
         _ => false,

@@ -10,12 +10,11 @@ pub struct WrittenBack {
 
 impl fmt::Display for WrittenBack {
     fn fmt<W: fmt::Write>(&self, f: &mut fmt::Formatter<W>) -> fmt::Result {
-        let length = self.length;
         let verdict = if self.same {
             "the same"
         } else {
             "not the same"
         };
-        write!(f, "written back: {length} bytes, {verdict}")
+        write!(f, "written back: {} bytes, {verdict}", self.length)
     }
 }

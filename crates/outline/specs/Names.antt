@@ -1,4 +1,4 @@
--- What ops and kinds are called.
+-- What ops are called.
 use Rattle.std.specs.Prelude.{ℕ, List, codes}
 use Rattle.instructions.specs.declared.BinaryOp.{BinaryOp}
 use Rattle.instructions.specs.declared.BinaryOp.TheVariants.{Add, Sub, Mul, And, Or, Xor, Below, Same}
@@ -10,8 +10,6 @@ use Rattle.instructions.specs.declared.Op.{Op}
 use Rattle.instructions.specs.declared.Op.TheVariants.{Set, Pick, Load, Store}
 use Rattle.instructions.specs.declared.Instruction.{Instruction}
 use Rattle.instructions.specs.declared.Instruction.TheVariants.{Do, If, Else, End, Repeat, Again}
-use Rattle.program.specs.declared.header.Kind.{Kind}
-use Rattle.program.specs.declared.header.Kind.TheVariants.{Source, Converted}
 
 abbrev pub binary_name : BinaryOp → List ℕ
 binary_name Add = codes "add"
@@ -47,7 +45,3 @@ name_of Else = codes "else"
 name_of End = codes "end"
 name_of (Repeat a k) = codes "repeat"
 name_of Again = codes "again"
-
-abbrev pub kind_name : Kind → List ℕ
-kind_name Source = codes "source"
-kind_name Converted = codes "converted"

@@ -1,9 +1,9 @@
-// What ops and kinds are called.
+// What ops are called. They are functions and no `Display`: a name is only the first word of what
+// shows an instruction, which the listing writes.
 ghost use Rattle.std.specs.Prelude.{◌≡◌};
-ghost use Rattle.outline.specs.Names.{name_of, op_name, value_name, binary_name, shift_name, kind_name};
+ghost use Rattle.outline.specs.Names.{name_of, op_name, value_name, binary_name, shift_name};
 
 use instructions::{BinaryOp, Instruction, Op, ShiftOp, Value};
-use program::header::Kind;
 
 /// The name of an instruction's op.
 pub fn name_of(instruction: Instruction) -> &'static str
@@ -63,15 +63,5 @@ fn shift_name(op: ShiftOp) -> &'static str
         ShiftOp::Left => "shl",
         ShiftOp::Right => "shr",
         ShiftOp::Rotate => "rotl",
-    }
-}
-
-/// The name of a kind of program.
-pub fn kind_name(kind: Kind) -> &'static str
-    ensures { result.now ≡ kind_name kind }
-{
-    match kind {
-        Kind::Source => "source",
-        Kind::Converted => "converted",
     }
 }

@@ -8,10 +8,5 @@ use program::program::Program;
 pub fn first_cell(program: &Program, table: usize) -> u32
     ensures { result ≡ first_cell program.now.header.tables table }
 {
-    let header = program.header();
-    let mut sum = 0u32;
-    for i in 0..table.min(8) {
-        sum += header.tables[i].length as u32;
-    }
-    sum
+    program.header().first_cell(table)
 }
