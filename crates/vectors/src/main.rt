@@ -1,7 +1,7 @@
 // Runs case files and prints how many of their cases agree.
 #![tactic(auto)]
 
-use anyhow::anyhow;
+use anyhow::{bail, ensure};
 use cases::case;
 use cases::named::Named;
 use std::alloc::{AllocError, Global};
@@ -11,21 +11,9 @@ use tally::Tally;
 use tally::report::Report;
 use trials::room::Room;
 
-fn text_of(rt: &HostRuntime, path: &str) -> anyhow::Result<String> {
-    match fs::read_to_string(rt, path) {
-        Ok(text) => Ok(text),
-        Err(_) => Err(anyhow!(format!(in rt.alloc(); "{path} cannot be read")?)),
-    }
-}
-
 // Whether the cases of a text are blocks of lines.
 fn has_blocks(text: &str) -> bool {
-    for line in text.lines() {
-        if line.starts_with("memory ") {
-            return true;
-        }
-    }
-    false
+    text.lines().any(|line| line.starts_with("memory "))
 }
 
 fn report_on(heap: Global, room: &mut Room, text: &str) -> Result<Report, AllocError> {
@@ -37,7 +25,9 @@ fn report_on(heap: Global, room: &mut Room, text: &str) -> Result<Report, AllocE
 }
 
 fn run_file(rt: &HostRuntime, room: &mut Room, path: &str) -> anyhow::Result<Tally> {
-    let text = text_of(rt, path)?;
+    let Ok(text) = fs::read_to_string(rt, path) else {
+        bail!("{path} cannot be read");
+    };
     let report = report_on(rt.alloc(), room, text.as_str())?;
     let name = Path::new(path).file_stem().unwrap_or(path);
     rt.print(Named {
@@ -49,19 +39,14 @@ fn run_file(rt: &HostRuntime, room: &mut Room, path: &str) -> anyhow::Result<Tal
 
 fn run(rt: &HostRuntime) -> anyhow::Result<()> {
     let mut room = Room::new(rt.alloc());
-    let mut total = Tally::new();
+    let mut total = Tally::default();
     for path in env::args(rt)?.skip(1) {
-        total.add(run_file(rt, &mut room, path.as_str())?);
+        total += run_file(rt, &mut room, path.as_str())?;
     }
     println!(rt; "total {total}")?;
-    if total.all == 0 {
-        return Err(anyhow!("no case was run: name case files"));
-    }
-    if total.whole() {
-        Ok(())
-    } else {
-        Err(anyhow!("some cases do not agree"))
-    }
+    ensure!(total.all != 0, "no case was run: name case files");
+    ensure!(total.whole(), "some cases do not agree");
+    Ok(())
 }
 
 fn main(rt: HostRuntime) -> anyhow::Result<()> {
