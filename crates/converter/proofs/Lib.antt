@@ -5,4 +5,4 @@ pub mod Fitting
 pub mod Bounded
 pub mod Left
 pub mod Results
-pub mod Filling
+pub mod Short

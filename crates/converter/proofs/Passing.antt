@@ -1,20 +1,15 @@
 -- The steps of the converter's passes.
-use Rattle.std.proofs.Common.{◌≡◌, ℕ, suc, ◌+◌, ◌<◌, ◌≤◌, Bool, List, ◌++◌, length, get_or, take, drop, Some, None, Option, sym, ap, ◌∙◌, arith}
-use Rattle.std.proofs.lemmas.List.{at_drop_more, at_drop_all, append_assoc, append-nil}
+use Rattle.std.proofs.Common.{◌≡◌, ℕ, suc, ◌+◌, ◌<◌, Bool, List, ◌++◌, length, get_or, drop, None, Option, sym, ap, ◌∙◌, arith}
+use Rattle.std.proofs.lemmas.List.{at_drop_more, append_assoc}
 use Rattle.instructions.specs.declared.Instruction.{Instruction}
 use Rattle.instructions.specs.declared.Instruction.TheVariants.{Again}
 use Rattle.program.specs.declared.opening.Marked.{Marked}
 use Rattle.program.specs.declared.refusal.Refusal.{Refusal}
-use Rattle.program.specs.declared.refusal.Reason.{Reason}
-use Rattle.program.specs.Refusals.{refusal}
 use Rattle.labels.specs.Kinds.{secrecy}
 use Rattle.labels.specs.Rules.{mask_of}
 use Rattle.labels.specs.Passes.{opens}
 use Rattle.converter.specs.Conversion.{becomes, convert}
 use Rattle.converter.specs.Refusing.{wrong, or_later, first_wrong}
-
-pub none_written : (cells : List Instruction) (n : ℕ) (rest : List Instruction) → n ≡ 0 → take n cells ++ rest ≡ rest
-none_written cells n rest e = ap (λ k. take k cells ++ rest) e
 
 module _ (long : ℕ → ℕ) (S : ℕ → ℕ → Bool) (code : List Instruction) where
   pub convert_more : (ks js : List (Marked Bool)) (p : ℕ) (i : Instruction) (w w' all : List Instruction) → p < length code → i ≡ get_or code p Again → w' ≡ w ++ becomes long (S p) ks p i → js ≡ opens secrecy (S p) ks p i
@@ -27,9 +22,6 @@ module _ (long : ℕ → ℕ) (S : ℕ → ℕ → Bool) (code : List Instructio
       ∙ (λ t. w ++ (becomes long (S p) ks p (x t) ++ convert long S (opens secrecy (S p) ks p (x t)) (suc p) (drop (p + 1) code)))
       ∙ ap (λ l. w ++ l) (sym step)
       ∙ g
-
-  pub convert_end : (ks : List (Marked Bool)) (p : ℕ) (w : List Instruction) → length code ≤ p → w ++ convert long S ks p (drop p code) ≡ w
-  convert_end ks p w h = ap (λ l. w ++ l) (at_drop_all (convert long S ks p) code p h) ∙ append-nil w
 
 module _ (secret hidden : ℕ → Bool) (S : ℕ → ℕ → Bool) (code : List Instruction) where
   wrong_next : (ks : List (Marked Bool)) (p : ℕ) (i : Instruction) → p < length code → i ≡ get_or code p Again
@@ -46,12 +38,3 @@ module _ (secret hidden : ℕ → Bool) (S : ℕ → ℕ → Bool) (code : List 
       ap (λ j. first_wrong secret hidden S j (p + 1) (drop (p + 1) code)) g
       ∙ ap (λ o. or_later secret hidden o p (first_wrong secret hidden S (opens secrecy (S p) ks p i) (p + 1) (drop (p + 1) code))) (f ∙ ap (λ b. wrong secret hidden (S p) b i) e)
       ∙ sym (wrong_next ks p i h x) ∙ inv
-
-  pub wrong_stop : (ks : List (Marked Bool)) (p : ℕ) (i : Instruction) (m : Bool) (all : Option Refusal) (r : Reason) → p < length code → i ≡ get_or code p Again → m ≡ mask_of secrecy ks → Some r ≡ wrong secret hidden (S p) m i
-      → first_wrong secret hidden S ks p (drop p code) ≡ all → Some (refusal r p) ≡ all
-  wrong_stop ks p i m all r h x e f inv =
-      ap (λ o. or_later secret hidden o p (first_wrong secret hidden S (opens secrecy (S p) ks p i) (p + 1) (drop (p + 1) code))) (f ∙ ap (λ b. wrong secret hidden (S p) b i) e)
-      ∙ sym (wrong_next ks p i h x) ∙ inv
-
-  pub wrong_end : (ks : List (Marked Bool)) (p : ℕ) → length code ≤ p → first_wrong secret hidden S ks p (drop p code) ≡ None
-  wrong_end ks p h = at_drop_all (first_wrong secret hidden S ks p) code p h

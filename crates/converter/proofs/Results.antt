@@ -1,16 +1,15 @@
 -- What a source's result is.
-use Rattle.std.proofs.Common.{◌≡◌, ℕ, ◌+◌, ◌<◌, ◌≤◌, Bool, true, false, ltb, leb, List, [], ◌++◌, length, get_or, take, is_some, IfOk, Some, None, Ok, Err, vec_items, Option, Result, sym, refl, ap, ◌∙◌, subst, arith}
+use Rattle.std.proofs.Common.{◌≡◌, ℕ, ◌+◌, ◌<◌, ◌≤◌, Bool, true, false, ltb, leb, List, [], ◌++◌, length, get_or, take, is_some, Some, None, vec_items, Option, sym, refl, ap, ◌∙◌, subst, arith}
 use Rattle.std.proofs.lemmas.List.{get_or-take, get_or_append_left, take_at, length-append}
 use Rattle.std.proofs.lemmas.Bool.{and_parts, ltb-true, leb-true}
 use Rattle.instructions.specs.declared.Instruction.{Instruction}
 use Rattle.instructions.specs.declared.Instruction.TheVariants.{Again}
-use Rattle.program.specs.declared.header.Header.{Header}
 use Rattle.program.specs.declared.header.Table.{Table}
 use Rattle.program.specs.declared.header.Kind.{Kind}
 use Rattle.program.specs.declared.header.Kind.TheVariants.{Source, Converted}
 use Rattle.program.specs.declared.refusal.Refusal.{Refusal}
 use Rattle.program.specs.declared.refusal.Reason.{Reason}
-use Rattle.program.specs.declared.refusal.Reason.TheVariants.{NotASource, NoRoomForResult}
+use Rattle.program.specs.declared.refusal.Reason.TheVariants.{NotASource}
 use Rattle.program.specs.Refusals.{unless, or_else}
 use Rattle.program.specs.declared.program.Program.{Program}
 use Rattle.program.specs.Bounds.{bound}
@@ -18,7 +17,7 @@ use Rattle.program.specs.Headers.{registers_of, longest, is_source, no_table, ta
 use Rattle.program.specs.Pairing.{pairing}
 use Rattle.program.specs.Blocks.{Nested}
 use Rattle.brackets.proofs.Nesting.{paired_is_nested}
-use Rattle.program.specs.Sound.{SoundHeader, SoundList}
+use Rattle.program.specs.Sound.{SoundList}
 use Rattle.labels.specs.Sets.{sets, secret_tables}
 use Rattle.labels.proofs.Reckoning.{reckoned}
 use Rattle.plan.specs.Planned.{plan_of, Passable}
@@ -29,7 +28,7 @@ use Rattle.machine.proofs.Programs.{code_long, code_pairs}
 use Rattle.counting.specs.Counting.{Countable}
 use Rattle.counting.proofs.Adding.{fits_eight}
 use Rattle.groups.specs.Groups.{lengths}
-use Rattle.converter.specs.Converting.{result_of, result_header, place_refusal, size_refusal, convert_refusal}
+use Rattle.converter.specs.Converting.{result_of, result_header}
 use Rattle.converter.proofs.Shapes.{shaped, placed}
 use Rattle.converter.proofs.Paired.{paired}
 use Rattle.converter.specs.Theorems.{brackets, Straight}
@@ -55,22 +54,6 @@ is_source_lem Converted e = let z : ◌≡◌ {A = ℕ} 0 1 = cc in absurd (omeg
 -- what is not refused as another kind is a source
 pub source_there : (k : Kind) (later : Option Refusal) → None ≡ or_else (unless (is_source k) NotASource 0) later → k ≡ Source
 source_there k later e = is_source_lem k (none_unless (is_source k) NotASource 0 (none_both (unless (is_source k) NotASource 0) later e).0)
-
-pub always_made : {X E : Type 0} (r : Result X E) (P : X → Type 0) → ((x : X) → P x) → IfOk r P
-always_made (Ok x) P h = h x
-always_made (Err e) P h = tt
-
--- what is accepted has room
-pub room_there : (h : Header) (code : List Instruction) (hides : Bool) (room : ℕ) → None ≡ convert_refusal h code hides room → length (result_of h code) ≤ room
-room_there h code hides room e =
-    let a = (none_both (unless (is_source h.kind) NotASource 0) _ e).1 in
-    let b = (none_both (place_refusal h code hides) _ a).1 in
-    let c = (none_both _ (unless (leb (length (result_of h code)) room) NoRoomForResult (length (result_of h code))) b).1 in
-    leb-true (length (result_of h code)) room (none_unless (leb (length (result_of h code)) room) NoRoomForResult (length (result_of h code)) c)
-
--- of a source, the places are asked first and then the size
-pub answer_is : (h : Header) (code : List Instruction) (hides : Bool) (room : ℕ) (x : Option Refusal) → h.kind ≡ Source → x ≡ or_else (place_refusal h code hides) (size_refusal (result_of h code) room) → x ≡ convert_refusal h code hides room
-answer_is h code hides room x kind e = e ∙ ap (λ k. or_else (unless (is_source k) NotASource 0) (or_else (place_refusal h code hides) (size_refusal (result_of h code) room))) (sym kind)
 
 module _ (s : Program) (kind : s.header.kind ≡ Source) where
   pub source_short : length (code_of s) ≤ 200
@@ -117,9 +100,6 @@ module _ (s : Program) (kind : s.header.kind ≡ Source) where
   -- the first numbers of the list that was planned into
   pub plan_there : (n : ℕ) (before after : List ℕ) → n ≡ length (code_of s) + 1 → after ≡ plan_of s.header (code_of s) ++ before → take n after ≡ plan_of s.header (code_of s)
   plan_there n before after e f = ap (take n) f ∙ take_at (plan_of s.header (code_of s)) before n (plan_long ∙ sym e)
-
-  pub sound_header : (n : ℕ) → n ≤ 3000 → SoundHeader (result_header s.header n)
-  sound_header n h = record { eight = s.eight; few = s.few; tables = s.tables; cells = s.cells; short = h; narrow = s.narrow }
 
   pub sound_list : (n : ℕ) (list rest : List Instruction) → n ≡ length (result_of s.header (code_of s)) → list ≡ result_of s.header (code_of s) ++ rest → SoundList (result_header s.header n) list
   sound_list n list rest e f =

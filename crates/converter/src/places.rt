@@ -1,27 +1,23 @@
 // What each place of a source becomes.
 ghost use Rattle.std.specs.Prelude.{◌≡◌, ℕ, ◌+◌, ◌<◌, ◌≤◌, Bool, true, [], ◌∷◌, ◌++◌, length, if◌then◌else◌};
 ghost use Rattle.instructions.specs.declared.Instruction.TheVariants.{If, Else, End};
-ghost use Rattle.stack.specs.Held.{held};
 ghost use Rattle.program.specs.Bounds.{bound};
-ghost use Rattle.labels.specs.Sets.{bits, sets};
+ghost use Rattle.labels.specs.Sets.{sets};
 ghost use Rattle.masks.specs.Counts.{secrets_of};
-ghost use Rattle.plan.specs.Planned.{Passable};
 ghost use Rattle.groups.specs.Groups.{lengths};
-ghost use Rattle.groups.specs.Outputs.{written};
 ghost use Rattle.converter.specs.Conversion.{secret_if, becomes, convert};
 
-use groups::groups::{else_group, if_group, mask_at, op_group};
+use crate::labelled::Labelled;
+use groups::groups::{Site, else_group, if_group, mask_at, op_group};
 use groups::output::Output;
 use instructions::{Instruction, Register};
 use labels::sets::has;
 use masks::masks::Masks;
-use program::header::Table;
 use program::opening::Marked;
 
 fn if_place(out: &mut Output, masks: &Masks, condition: Register, secret: bool)
-    requires { out.old.count + 15 ≤ 3000 }
-    ensures count { out.new.count ≤ out.old.count + 15 }
-    ensures written { written out.new ≡ written out.old ++ (if secret then secret_if (secrets_of (held masks.now.openings)) condition else If condition ∷ []) }
+    requires { length out.old + 15 ≤ 3000 }
+    ensures { out.new ≡ out.old ++ (if secret then secret_if (secrets_of masks.now.openings) condition else If condition ∷ []) }
 {
     if secret {
         let around = masks.count();
@@ -32,10 +28,9 @@ fn if_place(out: &mut Output, masks: &Masks, condition: Register, secret: bool)
 }
 
 // The else of a secret if: the if itself is one of those around the else.
-fn else_place(out: &mut Output, masks: &Masks, place: usize, secret: u16, tables: &[Table; 8])
-    requires { out.old.count + 15 ≤ 3000 }
-    ensures count { out.new.count ≤ out.old.count + 15 }
-    ensures written { written out.new ≡ written out.old ++ becomes (lengths tables.now) (bits secret) (held masks.now.openings) place Else }
+fn else_place(out: &mut Output, masks: &Masks)
+    requires { length out.old + 15 ≤ 3000 }
+    ensures { (long : ℕ → ℕ) (A : ℕ → Bool) (p : ℕ) → out.new ≡ out.old ++ becomes long A masks.now.openings p Else }
 {
     match masks.innermost() {
         Some(Marked { label: true, .. }) => {
@@ -46,10 +41,9 @@ fn else_place(out: &mut Output, masks: &Masks, place: usize, secret: u16, tables
     }
 }
 
-fn end_place(out: &mut Output, masks: &Masks, place: usize, secret: u16, tables: &[Table; 8])
-    requires { out.old.count + 15 ≤ 3000 }
-    ensures count { out.new.count ≤ out.old.count + 15 }
-    ensures written { written out.new ≡ written out.old ++ becomes (lengths tables.now) (bits secret) (held masks.now.openings) place End }
+fn end_place(out: &mut Output, masks: &Masks)
+    requires { length out.old + 15 ≤ 3000 }
+    ensures { (long : ℕ → ℕ) (A : ℕ → Bool) (p : ℕ) → out.new ≡ out.old ++ becomes long A masks.now.openings p End }
 {
     match masks.innermost() {
         Some(Marked { label: true, .. }) => (),
@@ -60,38 +54,40 @@ fn end_place(out: &mut Output, masks: &Masks, place: usize, secret: u16, tables:
 // Writes what the instruction at `place` becomes.
 fn convert_one(
     out: &mut Output,
-    instruction: Instruction,
+    source: &Labelled,
     masks: &Masks,
     place: usize,
-    secret: u16,
-    tables: &[Table; 8],
+    instruction: Instruction,
 )
-    requires { (out.old.count + 15 ≤ 3000) × ((place < 200) × (bound 16 8 instruction ≡ true)) }
-    ensures count { out.new.count ≤ out.old.count + 15 }
-    ensures written { written out.new ≡ written out.old ++ becomes (lengths tables.now) (bits secret) (held masks.now.openings) place instruction }
+    requires room { length out.old + 15 ≤ 3000 }
+    requires place { place < length source.now.code.now }
+    requires bound { bound 16 8 instruction ≡ true }
+    ensures { out.new ≡ out.old ++ becomes (lengths source.now.tables.now) (sets source.now.plan.now place) masks.now.openings place instruction }
 {
     match instruction {
-        Instruction::Do { op } => op_group(out, op, mask_at(masks.count()), place, tables),
-        Instruction::If { condition } => if_place(out, masks, condition, has(secret, condition)),
-        Instruction::Else => else_place(out, masks, place, secret, tables),
-        Instruction::End => end_place(out, masks, place, secret, tables),
+        Instruction::Do { op } => {
+            let mask = mask_at(masks.count());
+            op_group(out, op, Site { place, mask }, source.tables)
+        }
+        Instruction::If { condition } => {
+            let secret = source.plan[place];
+            if_place(out, masks, condition, has(secret, condition))
+        }
+        Instruction::Else => else_place(out, masks),
+        Instruction::End => end_place(out, masks),
         Instruction::Repeat { .. } | Instruction::Again => out.copy(instruction),
     }
 }
 
-/// Writes what every place becomes, by a set of secret registers for each place.
-pub fn convert_all(code: &[Instruction], tables: &[Table; 8], plan: &[u16], out: &mut Output)
-    requires code { Passable code.now }
-    requires long { length plan.now ≡ length code.now + 1 }
-    requires short { length code.now ≤ 200 }
-    requires new { out.old.count ≡ 0 }
-    ensures { written out.new ≡ convert (lengths tables.now) (sets plan.now) [] 0 code.now }
+/// Writes what every place becomes.
+pub fn convert_all(source: &Labelled) -> Output
+    ensures { result ≡ convert (lengths source.now.tables.now) (sets source.now.plan.now) [] 0 source.now.code.now }
 {
+    let mut out = Output::new();
     let mut masks = Masks::new();
-    for place in 0..code.len() {
-        let instruction = code[place];
-        let secret = plan[place];
-        convert_one(out, instruction, &masks, place, secret, tables);
-        masks.pass(instruction, place, secret);
+    for (place, instruction) in source.code.iter().enumerate() {
+        convert_one(&mut out, source, &masks, place, *instruction);
+        masks.pass(*instruction, place, source.plan[place]);
     }
+    out
 }

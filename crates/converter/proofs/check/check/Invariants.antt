@@ -1,5 +1,4 @@
 use Rattle.std.proofs.Common.{◌≡◌, [], drop}
-use Rattle.stack.specs.Held.{held}
 use Rattle.program.specs.Openings.{around}
 use Rattle.brackets.specs.Labelled.{unmarked}
 use Rattle.labels.specs.Sets.{sets, secret_tables}
@@ -8,6 +7,6 @@ use Rattle.converter.proofs.check.check.Given as goal
 
 abbrev pub invariant-loop-place : goal.invariant-loop-place
 invariant-loop-place l =
-    (first_wrong (secret_tables l.tables) (hidden_by l.hides) (sets l.plan) (held l.masks.openings) l.place (drop l.place l.code)
-    ≡ first_wrong (secret_tables l.tables) (hidden_by l.hides) (sets l.plan) [] 0 l.code)
-    × (unmarked (held l.masks.openings) ≡ around l.code l.place)
+    (first_wrong (secret_tables l.source.tables.now) (hidden_by l.hides) (sets l.source.plan.now) l.masks.openings l.place (drop l.place l.source.code.now)
+    ≡ first_wrong (secret_tables l.source.tables.now) (hidden_by l.hides) (sets l.source.plan.now) [] 0 l.source.code.now)
+    × (unmarked l.masks.openings ≡ around l.source.code.now l.place)
