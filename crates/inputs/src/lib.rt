@@ -1,12 +1,33 @@
 // What a run starts from: entry registers, and the words of the tables.
 #![tactic(auto)]
 
-ghost use Rattle.std.specs.Prelude.{◌≡◌, false, replicate, IfOk, if◌then◌else◌, vec_len, nat_lt, slice_set};
+ghost use Rattle.std.specs.Prelude.{◌≡◌, replicate, IfOk, OnErr, is_ok, if◌then◌else◌, vec_len, nat_lt, slice_set};
 ghost use Rattle.program.specs.Headers.{first_cell};
 
 use outline::tables::first_cell;
 use program::program::Program;
 use std::alloc::{AllocError, Global};
+use std::error::Error;
+use std::fmt;
+use std::num::ParseIntError;
+
+/// A text that names no register and no word of a table, or gives no word.
+#[derive(Clone, Copy, Debug, PartialEq, Eq)]
+pub struct NotAnInput;
+
+impl fmt::Display for NotAnInput {
+    fn fmt<W: fmt::Write>(&self, f: &mut fmt::Formatter<W>) -> fmt::Result {
+        f.write_str("not an input")
+    }
+}
+
+impl Error for NotAnInput {}
+
+impl From<ParseIntError> for NotAnInput {
+    fn from(_number: ParseIntError) -> NotAnInput {
+        NotAnInput
+    }
+}
 
 /// Entry registers and cells, all 0 at first.
 #[derive(Drop)]
@@ -27,49 +48,46 @@ impl Inputs {
         })
     }
 
-    /// Sets an entry register; false where there is none of that number.
-    pub fn set_register(&mut self, register: usize, word: u32) -> bool
-        ensures answer { result ≡ nat_lt register 16 }
-        ensures entry { self.new.entry ≡ (if result then slice_set self.old.entry register word else self.old.entry) }
+    // Registers and cells are set by index: after a write through get_mut a proof knows no element.
+    /// Sets an entry register, where there is one of that number.
+    pub fn set_register(&mut self, register: usize, word: u32) -> Result<(), NotAnInput>
+        ensures answer { is_ok result ≡ nat_lt register 16 }
+        ensures entry { self.new.entry ≡ (if is_ok result then slice_set self.old.entry register word else self.old.entry) }
         ensures cells { self.new.cells ≡ self.old.cells }
     {
         if register >= 16 {
-            return false;
+            return Err(NotAnInput);
         }
         self.entry[register] = word;
-        true
+        Ok(())
     }
 
-    /// Sets a cell; false where there is none of that number.
-    pub fn set_cell(&mut self, cell: usize, word: u32) -> bool
-        ensures answer { result ≡ nat_lt cell (vec_len self.old.cells) }
+    /// Sets a cell, where there is one of that number.
+    pub fn set_cell(&mut self, cell: usize, word: u32) -> Result<(), NotAnInput>
+        ensures answer { is_ok result ≡ nat_lt cell (vec_len self.old.cells) }
         ensures entry { self.new.entry ≡ self.old.entry }
-        ensures cells { self.new.cells.items ≡ (if result then slice_set self.old.cells.items cell word else self.old.cells.items) }
+        ensures cells { self.new.cells.items ≡ (if is_ok result then slice_set self.old.cells.items cell word else self.old.cells.items) }
     {
         if cell >= self.cells.len() {
-            return false;
+            return Err(NotAnInput);
         }
         self.cells[cell] = word;
-        true
+        Ok(())
     }
 
-    /// Takes what a text says, `r1=5` for an entry register or `t0.3=99` for a word of a table; false
-    /// where it says nothing of the kind, and then nothing changes.
-    pub fn take(&mut self, program: &Program, text: &str) -> bool
-        ensures entry { result ≡ false → self.new.entry ≡ self.old.entry }
-        ensures cells { result ≡ false → self.new.cells.items ≡ self.old.cells.items }
+    /// Takes what a text says, `r1=5` for an entry register or `t0.3=99` for a word of a table. An
+    /// error changes nothing.
+    pub fn take(&mut self, program: &Program, text: &str) -> Result<(), NotAnInput>
+        ensures entry { OnErr result (self.new.entry ≡ self.old.entry) }
+        ensures cells { OnErr result (self.new.cells.items ≡ self.old.cells.items) }
     {
-        let Some((name, value)) = text.split_once('=') else {
-            return false;
-        };
-        let Ok(word) = value.parse::<u32>() else {
-            return false;
-        };
-        match (register_of(name), cell_of(program, name)) {
-            (Some(register), _) => self.set_register(register, word),
-            (None, Some(cell)) => self.set_cell(cell, word),
-            (None, None) => false,
+        let (name, value) = text.split_once('=').ok_or(NotAnInput)?;
+        let word = value.parse::<u32>()?;
+        if let Some(register) = register_of(name) {
+            return self.set_register(register, word);
         }
+        let cell = cell_of(program, name).ok_or(NotAnInput)?;
+        self.set_cell(cell, word)
     }
 }
 
@@ -83,10 +101,8 @@ fn cell_of(program: &Program, name: &str) -> Option<usize> {
     let (table, index) = name.strip_prefix('t')?.split_once('.')?;
     let table = table.parse::<usize>().ok()?;
     let index = index.parse::<usize>().ok()?;
-    if table >= 8 {
-        return None;
-    }
-    if index >= program.header().tables[table].length as usize {
+    let length = program.header().tables.get(table)?.length as usize;
+    if index >= length {
         return None;
     }
     (first_cell(program, table) as usize).checked_add(index)
