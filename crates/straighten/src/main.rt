@@ -2,7 +2,7 @@
 // what is secret where, what it counts at the most, and, if inputs are given, a run.
 #![tactic(auto)]
 
-use anyhow::anyhow;
+use anyhow::{bail, ensure};
 use flat::Flat;
 use image::{reader, writer};
 use inputs::Inputs;
@@ -36,7 +36,7 @@ fn input(rt: &HostRuntime) -> anyhow::Result<Vec<u8>> {
 
 fn refuse(rt: &HostRuntime, refusal: Refusal) -> anyhow::Result<()> {
     rt.println(Refused { refusal })?;
-    Err(anyhow!("refused"))
+    bail!("refused")
 }
 
 // A converted program has no plan: its list stays empty.
@@ -61,25 +61,24 @@ fn show_written(rt: &HostRuntime, program: &Program, image: &[u8]) -> anyhow::Re
     };
     let same = out.as_slice() == image;
     rt.println(WrittenBack { length, same })?;
-    if same {
-        Ok(())
-    } else {
-        Err(anyhow!("not the same"))
-    }
+    ensure!(same, "not the same");
+    Ok(())
 }
 
 // The inputs that the arguments give, or none where there are no arguments.
 fn inputs(rt: &HostRuntime, program: &Program) -> anyhow::Result<Option<Inputs>> {
+    let mut words = env::args(rt)?.skip(1).peekable();
+    if words.peek().is_none() {
+        return Ok(None);
+    }
     let mut inputs = Inputs::new(rt.alloc(), program)?;
-    let mut any = false;
-    for word in env::args(rt)?.skip(1) {
-        any = true;
-        if word.as_str() != "run" && !inputs.take(program, word.as_str()) {
-            println!(rt; "not an input: {word}")?;
-            return Err(anyhow!("not an input"));
+    for word in words.filter(|word| word.as_str() != "run") {
+        if let Err(error) = inputs.take(program, word.as_str()) {
+            println!(rt; "{error}: {word}")?;
+            return Err(error.into());
         }
     }
-    Ok(if any { Some(inputs) } else { None })
+    Ok(Some(inputs))
 }
 
 fn show_run(
@@ -120,10 +119,8 @@ fn show_outcome(
 }
 
 fn show_marks(rt: &HostRuntime, memory: &Leaf<Flat>) -> anyhow::Result<()> {
-    for j in 0..memory.marks() {
-        if let Some(mark) = memory.mark(j) {
-            println!(rt; "mark {mark}")?;
-        }
+    for mark in (0..memory.marks()).filter_map(|j| memory.mark(j)) {
+        println!(rt; "mark {mark}")?;
     }
     Ok(())
 }

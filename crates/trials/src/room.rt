@@ -86,7 +86,8 @@ impl Room {
     }
 }
 
-// The list goes into the program, or comes back.
+// The list goes into the program, or comes back. Two results, one in the other, are plainer than an
+// error enum here: a refusal is an answer to the callers, and `?` passes on only the lack of memory.
 fn try_read(
     heap: Global,
     image: &[u8],
