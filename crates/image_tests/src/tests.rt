@@ -6,6 +6,7 @@ mod pairs;
 
 use image::reader::read;
 use instructions::Instruction;
+use program::refusal::Refusal;
 use std::alloc::{AllocError, Global};
 use std::test::Fail;
 
@@ -29,13 +30,13 @@ fn put(image: &mut Vec<u8>, at: usize, value: u8) {
     }
 }
 
-/// What reading answers: a refusal's number and place, or 0 and the number of instructions.
-fn answer(heap: Global, image: &[u8], room: usize) -> Result<(u8, usize), AllocError> {
+/// What reading answers: the number of instructions, or a refusal.
+fn answer(heap: Global, image: &[u8], room: usize) -> Result<Result<usize, Refusal>, AllocError> {
     let list = vec![in heap; Instruction::End; room]?;
-    match read(image, list) {
-        Ok(program) => Ok((0, program.code().len())),
-        Err(back) => Ok((back.refusal.number(), back.refusal.place)),
-    }
+    Ok(match read(image, list) {
+        Ok(program) => Ok(program.code().len()),
+        Err(back) => Err(back.refusal),
+    })
 }
 
 /// Reading such an image, with room for every program, answers so.
@@ -43,14 +44,13 @@ fn expect(
     heap: Global,
     set: &[(usize, u8)],
     code: &[[u8; 8]],
-    number: u8,
-    place: usize,
+    wanted: Result<usize, Refusal>,
 ) -> Result<(), Fail> {
     let image = image_of(heap, set, code)?;
-    let (answered, at) = answer(heap, &image, 3000)?;
-    if answered == number && at == place {
+    let answered = answer(heap, &image, 3000)?;
+    if answered == wanted {
         Ok(())
     } else {
-        Err(Fail::new(format_args!("{answered} at {at} in place of {number} at {place}")))
+        Err(Fail::new(format_args!("{answered:?} in place of {wanted:?}")))
     }
 }

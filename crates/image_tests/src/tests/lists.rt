@@ -3,6 +3,7 @@ use crate::tests::{answer, image_of};
 use image::reader::read;
 use image::writer::write;
 use instructions::{Instruction, Op, Value};
+use program::refusal::Reason;
 use std::test::Fail;
 
 const MOVE: [u8; 8] = [1, 2, 3, 0, 0, 0, 0, 0];
@@ -11,15 +12,15 @@ const MOVE: [u8; 8] = [1, 2, 3, 0, 0, 0, 0, 0];
 fn image_lengths(rt: HostRuntime) -> Result<(), Fail> {
     let heap = rt.alloc();
     let mut image = image_of(heap, &[], &[MOVE])?;
-    assert_eq!(rt; answer(heap, &image, 9)?, (0, 1));
+    assert_eq!(rt; answer(heap, &image, 9)?, Ok(1));
     image.push(0)?;
-    assert_eq!(rt; answer(heap, &image, 9)?, (4, 0));
+    assert_eq!(rt; answer(heap, &image, 9)?, Err(Reason::BadLength.at(0)));
     image.truncate(71);
-    assert_eq!(rt; answer(heap, &image, 9)?, (4, 0));
+    assert_eq!(rt; answer(heap, &image, 9)?, Err(Reason::BadLength.at(0)));
     image.truncate(63);
-    assert_eq!(rt; answer(heap, &image, 9)?, (1, 0));
+    assert_eq!(rt; answer(heap, &image, 9)?, Err(Reason::NoHeader.at(0)));
     image.truncate(0);
-    assert_eq!(rt; answer(heap, &image, 9)?, (1, 0));
+    assert_eq!(rt; answer(heap, &image, 9)?, Err(Reason::NoHeader.at(0)));
     Ok(())
 }
 
@@ -27,8 +28,8 @@ fn image_lengths(rt: HostRuntime) -> Result<(), Fail> {
 fn the_instruction_list(rt: HostRuntime) -> Result<(), Fail> {
     let heap = rt.alloc();
     let image = image_of(heap, &[], &[MOVE, MOVE])?;
-    assert_eq!(rt; answer(heap, &image, 2)?, (0, 2));
-    assert_eq!(rt; answer(heap, &image, 1)?, (8, 2));
+    assert_eq!(rt; answer(heap, &image, 2)?, Ok(2));
+    assert_eq!(rt; answer(heap, &image, 1)?, Err(Reason::NoRoomForCode.at(2)));
     let list = vec![in heap; Instruction::Again; 3]?;
     let Ok(program) = read(&image, list) else {
         return Err(Fail::new("refused"));
@@ -63,7 +64,7 @@ fn the_byte_list(rt: HostRuntime) -> Result<(), Fail> {
     let mut short = vec![in heap; 7u8; 71]?;
     match write(&program, &mut short) {
         Ok(_) => return Err(Fail::new("written")),
-        Err(refusal) => assert_eq!(rt; (refusal.number(), refusal.place), (16, 72)),
+        Err(refusal) => assert_eq!(rt; refusal, Reason::NoRoomForImage.at(72)),
     }
     assert!(rt; short.as_slice() == vec![in heap; 7u8; 71]?.as_slice());
     Ok(())
@@ -75,4 +76,16 @@ fn image_then_seven(image: &Vec<u8>, out: &Vec<u8>) -> Result<(), Fail> {
     } else {
         Err(Fail::new("other bytes"))
     }
+}
+
+#[test]
+fn numbers_of_reasons(rt: HostRuntime) {
+    assert_eq!(rt; Reason::NoHeader.at(0).number(), 1);
+    assert_eq!(rt; Reason::BadHeader.at(0).number(), 3);
+    assert_eq!(rt; Reason::BadLength.at(0).number(), 4);
+    assert_eq!(rt; Reason::BadField.at(0).number(), 5);
+    assert_eq!(rt; Reason::BadBracket.at(0).number(), 6);
+    assert_eq!(rt; Reason::TooDeep.at(0).number(), 7);
+    assert_eq!(rt; Reason::NoRoomForCode.at(0).number(), 8);
+    assert_eq!(rt; Reason::NoRoomForImage.at(0).number(), 16);
 }
