@@ -8,6 +8,8 @@ use memory::Mark;
 /// The most marks that any list holds.
 const MOST: usize = 1_000_000;
 
+// The count stands beside the list, since a memory takes nothing from the heap: the list is handed in,
+// and its length is the limit.
 /// A list whose first `count` entries are the marks seen.
 #[derive(Drop)]
 pub struct SeenList {

@@ -28,16 +28,6 @@ accepted_within d k base len off e =
     let q = and_parts (ltb off len) (leb (base + len) (length d.cells)) p.0 in
     (record { below = ltb-true off len q.0; fits = leb-true (base + len) (length d.cells) q.1 }, leb-true (d.rules.cost k len) (free d) p.1)
 
--- what code finds out of a memory by size, cost and free
-pub not_denied : (d : Description) (k : Access) (base len off : ℕ) {size cost room : ℕ} {found : Option Refusal} → size ≡ length d.cells → cost ≡ d.rules.cost k len → room ≡ free d
-    → found ≡ denial size base len off cost room → found ≡ None → denied d k base len off ≡ None
-not_denied d k base len off {size} {cost} {room} s p f e n =
-    ap (λ x. denial x base len off (d.rules.cost k len) (free d)) (sym s)
-    ∙ ap (λ x. denial size base len off x (free d)) (sym p)
-    ∙ ap (denial size base len off cost) (sym f)
-    ∙ sym e
-    ∙ n
-
 pub within_inside : {d : Description} {base len off : ℕ} → Within d base len off → inside (length d.cells) base len off ≡ true
 within_inside {d} {base} {len} {off} w =
     and_from (ltb off len) (leb (base + len) (length d.cells)) (lt-ltb off len w.below) (le-leb (base + len) (length d.cells) w.fits)
