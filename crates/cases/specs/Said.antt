@@ -1,7 +1,7 @@
 -- Answers in the words of the case files.
 use Rattle.std.specs.Prelude.{ℕ, List, ◌++◌, codes, decimal}
 use Rattle.program.specs.Refusals.{number_of}
-use Rattle.header.specs.Layout.{kind_code}
+use Rattle.program.specs.Headers.{kind_code}
 use Rattle.trials.specs.declared.answer.Answer.{Answer}
 use Rattle.trials.specs.declared.answer.Answer.TheVariants.{Read, Written, Refused, OtherBytes, Disturbed}
 
