@@ -11,12 +11,12 @@ use std::fmt;
 /// A program, to be shown: its header, its tables, and each instruction on a line. Labels are the
 /// secret registers on arriving at each place, as a plan writes them, if there are any to show.
 #[derive(Clone, Copy)]
-pub struct Listing<'a> {
-    pub program: &'a Program,
-    pub labels: Option<&'a [u16]>,
+pub struct Listing<'p, 'l> {
+    pub program: &'p Program,
+    pub labels: Option<&'l [u16]>,
 }
 
-impl fmt::Display for Listing<'_> {
+impl fmt::Display for Listing<'_, '_> {
     fn fmt<W: fmt::Write>(&self, f: &mut fmt::Formatter<W>) -> fmt::Result {
         write_heading(self.program, f)?;
         write_tables(self.program, f)?;

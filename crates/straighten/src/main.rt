@@ -8,7 +8,6 @@ use image::{reader, writer};
 use inputs::Inputs;
 use instructions::Instruction;
 use listing::listing::Listing;
-use listing::refused::Refused;
 use listing::written::WrittenBack;
 use leaf::Leaf;
 use machine::visit::{Choice, Visit};
@@ -35,20 +34,18 @@ fn input(rt: &HostRuntime) -> anyhow::Result<Vec<u8>> {
 }
 
 fn refuse(rt: &HostRuntime, refusal: Refusal) -> anyhow::Result<()> {
-    rt.println(Refused { refusal })?;
+    println!(rt; "{refusal}: {}", refusal.reason)?;
     bail!("refused")
 }
 
-// A converted program has no plan: its list stays empty.
+// A converted program has no plan, and so no labels to show.
 fn show_listing(rt: &HostRuntime, program: &Program) -> anyhow::Result<()> {
-    let mut labels = vec![in rt.alloc(); 0u16; program.code().len().saturating_add(1)]?;
-    if plan(program, &mut labels).is_err() {
-        labels.clear();
-    }
-    let listing = Listing {
-        program,
-        labels: &labels,
+    let mut list = vec![in rt.alloc(); 0u16; program.code().len().saturating_add(1)]?;
+    let labels = match plan(program, &mut list) {
+        Ok(_) => Some(list.as_slice()),
+        Err(_) => None,
     };
+    let listing = Listing { program, labels };
     rt.print(listing.to_string(rt.alloc())?)?;
     Ok(())
 }
