@@ -18,7 +18,7 @@ impl fmt::Display for Visits<'_> {
                 f.write_str(",")?;
             }
             let place = visit.place;
-            let choice = visit.choice as u8;
+            let choice = visit.choice.number();
             write!(f, "{place}.{choice}")?;
         }
         Ok(())

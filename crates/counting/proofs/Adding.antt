@@ -1,7 +1,6 @@
 -- The pass that counts.
-use Rattle.std.proofs.Common.{◌≡◌, ℕ, zero, suc, ◌+◌, ◌<◌, ◌≤◌, cond, List, [], ◌∷◌, map, length, get_or, drop, replicate, None, sym, refl, ap, ◌∙◌, arith}
+use Rattle.std.proofs.Common.{◌≡◌, ℕ, zero, suc, ◌+◌, ◌<◌, ◌≤◌, cond, List, [], ◌∷◌, map, length, get_or, drop, None, sym, refl, ap, ◌∙◌, arith}
 use mathlib.Core.Path.{fun_ext}
-use Rattle.std.proofs.lemmas.List.{drop_all}
 use Rattle.std.proofs.lemmas.Bool.{lt-ltb}
 use Rattle.instructions.specs.declared.Op.{Op}
 use Rattle.instructions.specs.declared.Op.TheVariants.{Set, Pick, Load, Store}
@@ -15,10 +14,9 @@ use Rattle.memory.specs.declared.Access.{Access}
 use Rattle.memory.specs.declared.Access.TheVariants.{Read, Write}
 use Rattle.machine.specs.States.{held}
 use Rattle.machine.specs.Fits.{FitOp, Fit}
-use Rattle.machine.specs.Most.{Price, each_step, hold, price}
+use Rattle.machine.specs.Most.{Price, hold, price}
 use Rattle.machine.proofs.Around.{no_some, opens, closers, closers-is, around}
 use Rattle.counting.specs.declared.part.Part.{Part}
-use Rattle.counting.specs.declared.price.TablePrice.{TablePrice}
 use Rattle.counting.specs.Counting.{costs, no_price, priced, mark_price, part, innermost, arms, turns, entered, sums, Added}
 
 op_eight : (t : ℕ) (o : Op) → t ≤ 8 → FitOp 32 t o → FitOp 32 8 o
@@ -113,18 +111,6 @@ module _ (w : Price) where
           deep = deep_more i is fs x fs' x' b.place b.openings f k d e;
           small = small;
         }
-
-    pub count_all : {p : ℕ} {fs : List Part} {x : ℕ} → length code ≤ p → Counted p fs x → x ≡ sums w [] 0 code
-    count_all {p} {fs} {x} h s = sym (ap (sums w fs x) (drop_all p code h)) ∙ s.goes
-
-none_counted : (n x : ℕ) → ◌≡◌ {A = TablePrice} (get_or (replicate n no_price) x no_price) no_price
-none_counted zero x = refl
-none_counted (suc n) zero = refl
-none_counted (suc n) (suc x) = none_counted n x
-
--- where no access costs anything, steps alone are counted
-pub steps_alone : priced 1 (replicate 8 no_price) ≡ each_step
-steps_alone = let F : (ℕ → TablePrice) → Price = λ f. record { step = 1; read = λ t. (f t).read; write = λ t. (f t).write } in ap F (fun_ext (none_counted 8))
 
 module _ (cost : Access → ℕ → ℕ) where
   read_costs : (tables : List Table) (t : ℕ) → (get_or (map (costs cost) tables) t no_price).read ≡ get_or (map (λ x. cost Read x.length) tables) t 0

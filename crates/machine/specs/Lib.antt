@@ -1,4 +1,5 @@
 pub mod Words
+pub mod Choices
 pub mod States
 pub mod Machine
 pub mod Nested

@@ -1,4 +1,6 @@
 // What a run writes down of each step.
+ghost use Rattle.std.specs.Prelude.{◌≡◌};
+ghost use Rattle.machine.specs.Choices.{number_of};
 
 /// Where a step goes; the discriminant is the number that is shown.
 #[derive(Clone, Copy, PartialEq, Eq, Debug)]
@@ -11,6 +13,15 @@ pub enum Choice {
     Past = 2,
     /// Nowhere: the run stops.
     Fault = 3,
+}
+
+impl Choice {
+    /// The number that is shown.
+    pub fn number(self) -> u8
+        ensures { result ≡ number_of self }
+    {
+        self as u8
+    }
 }
 
 /// The place of a step, and the choice that was made there.

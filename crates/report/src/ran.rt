@@ -13,7 +13,7 @@ pub struct VisitLine {
 impl fmt::Display for VisitLine {
     fn fmt<W: fmt::Write>(&self, f: &mut fmt::Formatter<W>) -> fmt::Result {
         let place = self.visit.place;
-        let choice = self.visit.choice as u8;
+        let choice = self.visit.choice.number();
         write!(f, "visit {place} {choice}")
     }
 }

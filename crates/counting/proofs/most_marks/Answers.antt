@@ -1,14 +1,10 @@
 use Rattle.std.proofs.Common.{◌≡◌, [], sym, ap, ◌∙◌, subst}
 use Rattle.machine.specs.Programs.{code_of}
 use Rattle.machine.proofs.Programs.{code_pairs}
-use Rattle.counting.specs.Counting.{Sum, sums, priced, mark_price, most_marks, Countable}
+use Rattle.counting.specs.Counting.{Sum, sums, priced, mark_price, most_marks}
 use Rattle.counting.proofs.Sums.{summed, not_held}
 use Rattle.counting.proofs.Adding.{marks_alone}
-use Rattle.counting.proofs.Countables.{countable}
 use Rattle.counting.proofs.most_marks.Goals as goal
-
-pub most-requires : goal.most-requires
-most-requires g c = subst Countable (sym c.code.ensures) (countable c.args.program.now)
 
 pub returns : goal.returns
 returns g c =

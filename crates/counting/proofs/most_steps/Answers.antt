@@ -2,13 +2,9 @@ use Rattle.std.proofs.Common.{◌≡◌, sym, ap, ◌∙◌, subst}
 use Rattle.machine.specs.Most.{each_step}
 use Rattle.machine.specs.Programs.{code_of}
 use Rattle.machine.proofs.Programs.{code_pairs}
-use Rattle.counting.specs.Counting.{Sum, most_steps, Countable}
+use Rattle.counting.specs.Counting.{Sum, most_steps}
 use Rattle.counting.proofs.Sums.{summed, ends_by}
-use Rattle.counting.proofs.Countables.{countable}
 use Rattle.counting.proofs.most_steps.Goals as goal
-
-pub most_steps_of-requires : goal.most_steps_of-requires
-most_steps_of-requires c = subst Countable (sym c.code.ensures) (countable c.args.program.now)
 
 pub returns : goal.returns
 returns c =

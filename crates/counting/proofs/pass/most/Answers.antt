@@ -1,8 +1,8 @@
-use Rattle.std.proofs.Common.{◌+◌, ◌<◌, ◌≤◌, ◌∷◌, length, drop, sym, ap, ◌∙◌, subst, rules}
+use Rattle.std.proofs.Common.{◌+◌, ◌<◌, ◌∷◌, length, drop, sym, ap, ◌∙◌, subst, rules}
 use Rattle.std.proofs.lemmas.List.{get_or_default, drop_more}
 use Rattle.instructions.specs.declared.Instruction.TheVariants.{Again}
 use Rattle.machine.specs.Fits.{Fit}
-use Rattle.counting.proofs.Adding.{count_none, count_more, count_all}
+use Rattle.counting.proofs.Adding.{count_none, count_more}
 use Rattle.counting.proofs.pass.most.Goals as goal
 
 pub add-requires : goal.add-requires
@@ -23,8 +23,3 @@ loop-instruction-preserved c =
     let lt : p < length code = search rules in
     let here = drop_more code p Again lt ∙ ap (λ i. i ∷ drop (p + 1) code) (sym (get_or_default code p _ Again lt)) in
     count_more _ code c.requires.pairs here lt l.invariant c.add.ensures c.add.new.self.small
-
-pub returns : goal.returns
-returns c =
-    let le : length c.args.code.now ≤ c.loop-instruction.instruction-index = search rules in
-    count_all _ c.args.code.now le c.loop-instruction.invariant
