@@ -2,6 +2,8 @@
 ghost use Rattle.std.specs.Prelude.{◌≡◌, ℕ, ◌+◌, ◌<◌, ◌≤◌, true, [], ◌∷◌, ◌++◌, length};
 ghost use Rattle.program.specs.Bounds.{bound_op};
 ghost use Rattle.instructions.specs.declared.Op.{Op};
+ghost use Rattle.instructions.specs.declared.Op.TheVariants.{Set};
+ghost use Rattle.instructions.specs.declared.Value.TheVariants.{Const, Binary};
 ghost use Rattle.groups.specs.Groups.{straight, mask_at, lengths, op_group, masked, kept, pick_group, and_mask, in_range, first_bad, guard, load_end, store_end, if_group, else_group};
 
 use crate::output::Output;
@@ -21,6 +23,20 @@ struct Access {
     table: u8,
     cells: u16,
     index: Register,
+}
+
+fn constant(target: Register, word: u32) -> Op
+    ensures { result ≡ Set target (Const word) }
+{
+    let value = Value::Const { word };
+    Op::Set { target, value }
+}
+
+fn binary(target: Register, op: BinaryOp, left: Register, right: Register) -> Op
+    ensures { result ≡ Set target (Binary op left right) }
+{
+    let value = Value::Binary { op, left, right };
+    Op::Set { target, value }
 }
 
 // An op with its target. Behind a mask it goes into 25, and from there where the mask is not 0.
@@ -90,14 +106,7 @@ fn and_mask(out: &mut Output, mask: Option<Register>, x: Register)
     ensures { out.new ≡ out.old ++ straight (and_mask mask x) }
 {
     if let Some(mask) = mask {
-        out.put(&[Op::Set {
-            target: x,
-            value: Value::Binary {
-                op: BinaryOp::And,
-                left: x,
-                right: mask,
-            },
-        }]);
+        out.put(&[binary(x, BinaryOp::And, x, mask)]);
     }
 }
 
@@ -107,24 +116,9 @@ fn in_range(out: &mut Output, cells: u16, index: Register)
     ensures { out.new ≡ out.old ++ straight (in_range cells index) }
 {
     out.put(&[
-        Op::Set {
-            target: 25,
-            value: Value::Const {
-                word: u32::from(cells),
-            },
-        },
-        Op::Set {
-            target: 25,
-            value: Value::Binary {
-                op: BinaryOp::Below,
-                left: index,
-                right: 25,
-            },
-        },
-        Op::Set {
-            target: 26,
-            value: Value::Const { word: 0 },
-        },
+        constant(25, u32::from(cells)),
+        binary(25, BinaryOp::Below, index, 25),
+        constant(26, 0),
         Op::Pick {
             target: 26,
             condition: 25,
@@ -139,34 +133,10 @@ fn first_bad(out: &mut Output)
     ensures { out.new ≡ out.old ++ straight first_bad }
 {
     out.put(&[
-        Op::Set {
-            target: 27,
-            value: Value::Const { word: 0 },
-        },
-        Op::Set {
-            target: 28,
-            value: Value::Binary {
-                op: BinaryOp::Same,
-                left: 24,
-                right: 27,
-            },
-        },
-        Op::Set {
-            target: 27,
-            value: Value::Binary {
-                op: BinaryOp::Same,
-                left: 25,
-                right: 27,
-            },
-        },
-        Op::Set {
-            target: 27,
-            value: Value::Binary {
-                op: BinaryOp::And,
-                left: 27,
-                right: 28,
-            },
-        },
+        constant(27, 0),
+        binary(28, BinaryOp::Same, 24, 27),
+        binary(27, BinaryOp::Same, 25, 27),
+        binary(27, BinaryOp::And, 27, 28),
     ]);
 }
 
@@ -193,12 +163,7 @@ fn guard(out: &mut Output, site: Site, access: Access)
     first_bad(out);
     and_mask(out, site.mask, 27);
     out.put(&[
-        Op::Set {
-            target: 28,
-            value: Value::Const {
-                word: site.place as u32 + 1,
-            },
-        },
+        constant(28, site.place as u32 + 1),
         Op::Pick {
             target: 24,
             condition: 27,
@@ -261,26 +226,9 @@ pub fn if_group(out: &mut Output, mask: Option<Register>, own: Register, a: Regi
     ensures { out.new ≡ out.old ++ straight (if_group mask own a) }
 {
     out.put(&[
-        Op::Set {
-            target: 25,
-            value: Value::Const { word: 0 },
-        },
-        Op::Set {
-            target: 26,
-            value: Value::Binary {
-                op: BinaryOp::Same,
-                left: a,
-                right: 25,
-            },
-        },
-        Op::Set {
-            target: own,
-            value: Value::Binary {
-                op: BinaryOp::Same,
-                left: 26,
-                right: 25,
-            },
-        },
+        constant(25, 0),
+        binary(26, BinaryOp::Same, a, 25),
+        binary(own, BinaryOp::Same, 26, 25),
     ]);
     and_mask(out, mask, own);
 }
@@ -291,28 +239,8 @@ pub fn else_group(out: &mut Output, mask: Option<Register>, own: Register)
     ensures { out.new ≡ out.old ++ straight (else_group mask own) }
 {
     match mask {
-        None => out.put(&[
-            Op::Set {
-                target: 25,
-                value: Value::Const { word: 1 },
-            },
-            Op::Set {
-                target: own,
-                value: Value::Binary {
-                    op: BinaryOp::Xor,
-                    left: own,
-                    right: 25,
-                },
-            },
-        ]),
-        Some(m) => out.put(&[Op::Set {
-            target: own,
-            value: Value::Binary {
-                op: BinaryOp::Xor,
-                left: own,
-                right: m,
-            },
-        }]),
+        None => out.put(&[constant(25, 1), binary(own, BinaryOp::Xor, own, 25)]),
+        Some(m) => out.put(&[binary(own, BinaryOp::Xor, own, m)]),
     }
 }
 
