@@ -7,7 +7,8 @@ use Rattle.program.specs.declared.refusal.Reason.TheVariants.{NoRoomForImage}
 use Rattle.program.specs.declared.header.Kind.TheVariants.{Converted}
 use Rattle.program.specs.Refusals.{refusal, number_of}
 use Rattle.program.specs.Headers.{longest}
-use Rattle.header.specs.Layout.{header_at, kind_code}
+use Rattle.program.specs.Headers.{kind_code}
+use Rattle.header.specs.Layout.{header_at}
 use Rattle.image.specs.Images.{read_refusal}
 use Rattle.trials.specs.declared.answer.Answer.{Answer}
 use Rattle.trials.specs.declared.answer.Answer.TheVariants.{Read, Written, Refused, OtherBytes, Disturbed}
