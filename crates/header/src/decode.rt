@@ -63,29 +63,18 @@ fn rest_is_zero(bytes: &[u8; 64]) -> bool
 fn header(bytes: &[u8; 64]) -> Option<Header>
     ensures { result ≡ (if header_good bytes.now then Some (header_at bytes.now) else None) }
 {
-    let [
-        1,
-        0,
-        used,
-        number,
-        count_low,
-        count_high,
-        secret_low,
-        secret_high,
-        ..
-    ] = *bytes
-    else {
+    let [1, 0, used, kind, n0, n1, s0, s1, ..] = *bytes else {
         return None;
     };
     if used > MOST_TABLES {
         return None;
     }
     let header = Header {
-        kind: Kind::try_from(number).ok()?,
+        kind: Kind::try_from(kind).ok()?,
         tables: tables(bytes, used)?,
         used,
-        count: u16::from_le_bytes([count_low, count_high]),
-        secret_entry: u16::from_le_bytes([secret_low, secret_high]),
+        count: u16::from_le_bytes([n0, n1]),
+        secret_entry: u16::from_le_bytes([s0, s1]),
     };
     if header.count > header.kind.longest() || header.first_cell(8) > MOST_CELLS {
         return None;
