@@ -10,6 +10,8 @@ use crate::output::Output;
 use instructions::{BinaryOp, Op, Register, Value};
 use program::header::Table;
 
+// How much room a group asks for differs from group to group, so it is said at each, and not by a type.
+
 /// A source place, and the register that masks it, where there is one.
 #[derive(Clone, Copy)]
 pub struct Site {

@@ -46,6 +46,7 @@ fn tables(bytes: &[u8; 64], used: u8) -> Option<[Table; 8]>
 {
     let mut tables = [Table::UNUSED; 8];
     let (entries, _) = bytes[8..40].as_chunks::<4>();
+    // Written by number: of what an adapter of iter_mut leaves no proof can know.
     for (i, entry) in entries.iter().enumerate() {
         tables[i] = table(*entry, i < usize::from(used))?;
     }

@@ -6,6 +6,7 @@ use memory::window::Window;
 use memory::{Access, Mark, Memory};
 use program::refusal::Refusal;
 
+// Layers are of two kinds and no more, and are copied: an enum, and no `dyn`.
 /// A layer of any kind.
 #[derive(Clone, Copy)]
 pub enum Chosen {

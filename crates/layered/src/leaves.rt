@@ -11,6 +11,7 @@ use std::alloc::{AllocError, Global};
 /// The most cells of a flat memory that count.
 const MOST: usize = 65536;
 
+// The makes are two and no more, and a pile gives its cells back: an enum, and no `dyn`.
 /// Cells of either make.
 #[derive(Drop)]
 pub enum LeafCells {

@@ -1,6 +1,7 @@
 // What was written back of an image, on one line.
 use std::fmt;
 
+// The flag stands beside the length since both are shown, and neither says whether the other is there.
 /// How many bytes were written, and whether they are those that were read.
 #[derive(Clone, Copy)]
 pub struct WrittenBack {

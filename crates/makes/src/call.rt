@@ -7,6 +7,8 @@ use memory::{Access, Mark, Memory};
 use program::refusal::Refusal;
 use std::fmt;
 
+// Two of these are operations of `piles` too. Those drop their answers, so that neither enum could hold
+// the other and be plainer.
 #[derive(Clone, Copy)]
 pub enum Call {
     Read {

@@ -9,6 +9,7 @@ ghost use Rattle.masks.specs.Counts.{secrets_of};
 
 use brackets::openings::Openings;
 use instructions::Instruction;
+use labels::marks::none_open;
 use labels::sets::has;
 use program::opening::Marked;
 
@@ -37,7 +38,7 @@ impl Masks {
         ensures { result.openings ≡ [] }
     {
         Masks {
-            openings: Openings::new(),
+            openings: none_open(),
             count: 0,
         }
     }

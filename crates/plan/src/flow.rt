@@ -65,6 +65,9 @@ fn leaving(op: Op, set: u16, masked: bool, tables: &[Table; 8]) -> u16
     }
 }
 
+// The list of sets is one that the caller of the plan hands in, so what each function leaves of it is said
+// at each, and not by a type that would own it.
+
 // Puts a set into that at `place`, and says whether that was news.
 fn raise(list: &mut [u16], place: usize, set: u16) -> bool
     requires { place < length list.old }

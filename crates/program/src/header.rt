@@ -78,6 +78,7 @@ impl Table {
     };
 }
 
+// An image has eight entries, used or not, and a header is copied: so the array, with a count beside it.
 /// The tables lie one after another from cell 0; entries from `used` on are not used.
 #[derive(Clone, Copy)]
 pub struct Header {

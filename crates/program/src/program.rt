@@ -9,6 +9,7 @@ ghost use Rattle.program.specs.Sound.{SoundHeader, SoundList};
 use crate::header::Header;
 use instructions::Instruction;
 
+// The list is the caller's, and so is what stands in it behind the instructions: the header has their number.
 /// A program: a header, and a list whose first `count` entries are the instructions. The list is
 /// the one that was handed in; what stands behind the instructions stays as it was.
 #[derive(Drop)]

@@ -7,6 +7,8 @@ ghost use Rattle.memory.specs.Laws.{Within};
 use memory::Memory;
 use memory::window::Window;
 
+// What is asked of both is a fact about the memory as it is at the call, which no window can carry.
+
 /// The word at an offset of a window.
 pub fn fetch<M: Memory>(memory: &mut M, window: Window, off: usize) -> u32
     requires within { Within (M.model memory.old) window.first window.length off }

@@ -8,6 +8,7 @@ use memory::window::Window;
 use program::program::Program;
 use windows::lay;
 
+// Arrays that are long enough for every program, since nothing is allocated in a run.
 /// Where each bracket jumps to, and the window of each table.
 #[derive(Drop)]
 pub struct Layout {

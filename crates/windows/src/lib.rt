@@ -19,6 +19,7 @@ pub fn lay(program: &Program) -> [Window; 8]
         length: 0,
     }; 8];
     let mut first = 0;
+    // Written by number: of what an adapter of iter_mut leaves no proof can know.
     for (t, table) in tables.iter().enumerate() {
         let length = table.length as usize;
         windows[t] = Window { first, length };
