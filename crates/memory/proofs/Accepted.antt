@@ -1,7 +1,6 @@
 -- Accesses that are accepted, and those that are not.
-use Rattle.std.proofs.Common.{◌≡◌, ℕ, ◌+◌, ◌≤◌, Bool, true, false, ltb, leb, length, get_or, set, None, Ok, Option, sym, refl, ap, ◌∙◌, arith}
+use Rattle.std.proofs.Common.{◌≡◌, ℕ, ◌+◌, ◌≤◌, Bool, true, false, ltb, leb, length, get_or, set, None, Ok, refl, ap, arith}
 use Rattle.std.proofs.lemmas.Bool.{lt-ltb, le-leb, ltb-true, leb-true, and_from, and_parts}
-use Rattle.program.specs.declared.refusal.Refusal.{Refusal}
 use Rattle.program.specs.declared.refusal.Reason.TheVariants.{OutsideTable, NoRoomForMarks}
 use Rattle.program.specs.Refusals.{unless, or_else}
 use Rattle.memory.specs.declared.Access.{Access}

@@ -7,7 +7,7 @@ use Rattle.program.specs.Refusals.{unless, or_else}
 use Rattle.memory.specs.declared.Access.{Access}
 use Rattle.memory.specs.declared.Access.TheVariants.{Read, Write}
 use Rattle.memory.specs.Description.{Mark, Rules, Description, marked}
-use Rattle.memory.specs.Accesses.{denial, denied, left, read_after, write_after}
+use Rattle.memory.specs.Accesses.{denial, denied, left}
 use Rattle.memory.specs.Laws.{Lawful}
 use Rattle.memory.proofs.Accepted.{accepted_within}
 use Rattle.memory.specs.declared.window.Window.{Window}

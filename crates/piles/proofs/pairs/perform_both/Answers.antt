@@ -1,6 +1,3 @@
-use Rattle.std.proofs.Common.{sym, subst}
-use Rattle.memory.specs.Description.{Description}
-use Rattle.piles.specs.Pairs.{SameButCells}
 use Rattle.piles.proofs.Alike.{moved, leaves_same, leaves_hidden}
 use Rattle.piles.proofs.pairs.perform_both.Goals as goal
 
