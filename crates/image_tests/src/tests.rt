@@ -30,7 +30,8 @@ fn put(image: &mut Vec<u8>, at: usize, value: u8) {
     }
 }
 
-/// What reading answers: the number of instructions, or a refusal.
+/// What reading answers: the number of instructions, or a refusal. Two results, one in the other, since a
+/// refusal is an answer here, and `?` passes on only the lack of memory.
 fn answer(heap: Global, image: &[u8], room: usize) -> Result<Result<usize, Refusal>, AllocError> {
     let list = vec![in heap; Instruction::End; room]?;
     Ok(match read(image, list) {

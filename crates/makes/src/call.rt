@@ -102,7 +102,7 @@ impl fmt::Display for Answer {
         match *self {
             Answer::Word { word } => write!(f, "{word:x}"),
             Answer::Number { number } => write!(f, "{number}"),
-            Answer::Flag { flag } => f.write_str(if flag { "1" } else { "0" }),
+            Answer::Flag { flag } => write!(f, "{}", u8::from(flag)),
             Answer::Seen { mark: Some(mark) } => write!(f, "{mark}"),
             Answer::Seen { mark: None } => f.write_str("none"),
             Answer::Done => f.write_str("ok"),
