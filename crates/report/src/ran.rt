@@ -1,6 +1,5 @@
 // A run, in lines: every visit and every mark, and what the registers then hold.
 use machine::visit::Visit;
-use program::header::Kind;
 use run::Outcome;
 use std::fmt;
 
@@ -36,17 +35,17 @@ impl fmt::Display for Totals {
     }
 }
 
-/// The registers that a program of a kind has.
+/// The registers, so many of them.
 #[derive(Clone, Copy)]
 pub struct Registers {
     pub words: [u32; 32],
-    pub kind: Kind,
+    pub count: u8,
 }
 
 impl fmt::Display for Registers {
     fn fmt<W: fmt::Write>(&self, f: &mut fmt::Formatter<W>) -> fmt::Result {
         f.write_str("registers:")?;
-        let count = self.kind.registers() as usize;
+        let count = usize::from(self.count);
         for (i, word) in self.words.iter().take(count).enumerate() {
             write!(f, " r{i}={word}")?;
         }

@@ -109,9 +109,9 @@ fn show_outcome(
     }
     show_marks(rt, memory)?;
     rt.println(Totals { outcome })?;
-    let kind = program.header().kind;
+    let count = program.header().kind.registers();
     let words = outcome.registers;
-    rt.println(Registers { words, kind })?;
+    rt.println(Registers { words, count })?;
     Ok(())
 }
 
