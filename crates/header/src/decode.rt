@@ -42,7 +42,8 @@ fn tables(bytes: &[u8; 64], used: u8) -> Option<[Table; 8]>
 {
     let mut tables = [Table::UNUSED; 8];
     let (entries, _) = bytes[8..40].as_chunks::<4>();
-    // Written by number: of what an adapter of iter_mut leaves no proof can know.
+    // Written by number. `array::try_from_fn` was tried and its proof did not close: what it promises
+    // is that each element came from a call of some closure of its type, not of the one handed in.
     for (i, entry) in entries.iter().enumerate() {
         tables[i] = table(*entry, i < usize::from(used))?;
     }
