@@ -33,11 +33,7 @@ fn table(entry: [u8; 4], used: bool) -> Option<Table>
         length: u16::from_le_bytes([low, high]),
         secret: label == 1,
     };
-    if label <= 1 && last == 0 && fits(table, used) {
-        Some(table)
-    } else {
-        None
-    }
+    (label <= 1 && last == 0 && fits(table, used)).then_some(table)
 }
 
 // The eight table entries, if they are good.
@@ -46,7 +42,8 @@ fn tables(bytes: &[u8; 64], used: u8) -> Option<[Table; 8]>
 {
     let mut tables = [Table::UNUSED; 8];
     let (entries, _) = bytes[8..40].as_chunks::<4>();
-    // Written by number: of what an adapter of iter_mut leaves no proof can know.
+    // Written by number. `array::try_from_fn` was tried and its proof did not close: what it promises
+    // is that each element came from a call of some closure of its type, not of the one handed in.
     for (i, entry) in entries.iter().enumerate() {
         tables[i] = table(*entry, i < usize::from(used))?;
     }
@@ -77,7 +74,7 @@ fn header(bytes: &[u8; 64]) -> Option<Header>
         count: u16::from_le_bytes([n0, n1]),
         secret_entry: u16::from_le_bytes([s0, s1]),
     };
-    if header.count > header.kind.longest() || header.first_cell(8) > MOST_CELLS {
+    if header.count > header.kind.longest() || header.cells() > MOST_CELLS {
         return None;
     }
     rest_is_zero(bytes).then_some(header)

@@ -4,7 +4,6 @@
 ghost use Rattle.std.specs.Prelude.{◌≡◌, replicate, IfOk, OnErr, is_ok, if◌then◌else◌, vec_len, nat_lt, slice_set};
 ghost use Rattle.program.specs.Headers.{first_cell};
 
-use outline::tables::first_cell;
 use program::program::Program;
 use std::alloc::{AllocError, Global};
 use std::error::Error;
@@ -41,7 +40,7 @@ impl Inputs {
     pub fn new(heap: Global, program: &Program) -> Result<Inputs, AllocError>
         ensures { IfOk result (λ i. (i.entry ≡ replicate 16 0) × (i.cells.items ≡ replicate (first_cell program.now.header.tables 8) 0)) }
     {
-        let cells = vec![in heap; 0u32; first_cell(program, 8) as usize]?;
+        let cells = vec![in heap; 0u32; program.header().cells() as usize]?;
         Ok(Inputs {
             entry: [0; 16],
             cells,
@@ -105,5 +104,5 @@ fn cell_of(program: &Program, name: &str) -> Option<usize> {
     if index >= length {
         return None;
     }
-    (first_cell(program, table) as usize).checked_add(index)
+    (program.header().first_cell(table) as usize).checked_add(index)
 }

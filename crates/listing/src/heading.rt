@@ -21,7 +21,7 @@ impl fmt::Display for Sizes {
             header.kind,
             header.count,
             header.used,
-            header.first_cell(8)
+            header.cells()
         )
     }
 }

@@ -34,14 +34,21 @@ impl fmt::Display for Kind {
     ghost output = { λ kind. Some (kind_name kind) };
 
     fn fmt<W: fmt::Write>(&self, f: &mut fmt::Formatter<W>) -> fmt::Result {
-        f.write_str(match self {
-            Kind::Source => "source",
-            Kind::Converted => "converted",
-        })
+        f.write_str(self.name())
     }
 }
 
 impl Kind {
+    /// What a kind is called.
+    pub fn name(self) -> &'static str
+        ensures { result.now ≡ kind_name self }
+    {
+        match self {
+            Kind::Source => "source",
+            Kind::Converted => "converted",
+        }
+    }
+
     /// How many registers a program of this kind has.
     pub fn registers(self) -> u8
         ensures { result ≡ registers_of self }
@@ -99,6 +106,13 @@ fn cells(tables: &[Table]) -> u32
 }
 
 impl Header {
+    /// How many cells the tables have together.
+    pub fn cells(&self) -> u32
+        ensures { result ≡ cells_of self.now.tables }
+    {
+        cells(&self.tables)
+    }
+
     /// The first cell of a table; past the last table, the number of cells in all.
     pub fn first_cell(&self, table: usize) -> u32
         ensures { result ≡ first_cell self.now.tables table }

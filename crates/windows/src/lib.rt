@@ -13,19 +13,11 @@ pub fn lay(program: &Program) -> [Window; 8]
     ensures each { Laid program.now.header.tables result }
     ensures wide { length result ≡ 8 }
 {
-    let tables = program.header().tables;
-    let mut windows = [Window {
-        first: 0,
-        length: 0,
-    }; 8];
-    let mut first = 0;
-    // Written by number: of what an adapter of iter_mut leaves no proof can know.
-    for (t, table) in tables.iter().enumerate() {
-        let length = table.length as usize;
-        windows[t] = Window { first, length };
-        first += length;
-    }
-    windows
+    let header = program.header();
+    std::array::from_fn(|t| Window {
+        first: header.first_cell(t) as usize,
+        length: header.tables[t].length as usize,
+    })
 }
 
 /// The window of a table.
@@ -40,10 +32,5 @@ pub fn of_table(windows: &[Window; 8], table: u8) -> Window
 pub fn cells(program: &Program) -> usize
     ensures { result ≡ cells_of program.now.header.tables }
 {
-    program
-        .header()
-        .tables
-        .iter()
-        .map(|table| table.length as usize)
-        .sum()
+    program.header().cells() as usize
 }

@@ -2,13 +2,13 @@ use Rattle.std.proofs.Common.{◌≡◌, true, false, leb, get_or, sym, ap, ◌�
 use Rattle.std.specs.Bool.{then_some}
 use Rattle.std.proofs.lemmas.Bool.{cond-false, lt-leb, le-leb}
 use Rattle.std.proofs.lemmas.Bool.Decides.{nat_tests}
-use Rattle.program.specs.Headers.{kind_of, longest, cells_of, first_cell}
+use Rattle.program.specs.Headers.{kind_of, longest, cells_of}
 use Rattle.program.specs.Firsts.{all_below}
 use Rattle.header.specs.Layout.{header_good, header_at, tables_at, entry_good, pair_at}
-use Rattle.header.proofs.Numbers.{kind_none, kind_some, all_cells}
+use Rattle.header.proofs.Numbers.{kind_none, kind_some}
 use Rattle.header.proofs.Choosing.{cond_none, cond_some, then_chosen}
 use Rattle.header.proofs.decode.header.Goals as goal
-use Rattle.header.proofs.decode.header.Goals.{then-header-longest-via-then-header-longest, then-header-longest-via-else-header-longest+then-first_cell-gt-MOST_CELLS}
+use Rattle.header.proofs.decode.header.Goals.{then-header-longest-via-then-header-longest, then-header-longest-via-else-header-longest+then-cells-gt-MOST_CELLS}
 
 pub returns-in_default : goal.returns-in_default
 unfolding header_good
@@ -56,8 +56,8 @@ returns-then-header-longest c =
       | then-header-longest-via-then-header-longest w ↦
           let many : leb (pair_at bs 4) (longest (kind_of (get_or bs 3 0))) ≡ false = lt-leb _ _ (omega arith) in
           grind (arith, nat_tests)
-      | then-header-longest-via-else-header-longest+then-first_cell-gt-MOST_CELLS w ↦
-          let cells : w.first_cell.result ≡ cells_of (tables_at bs) = w.first_cell.ensures ∙ ap (λ ts. first_cell ts 8) of_tables.1 ∙ all_cells bs in
+      | then-header-longest-via-else-header-longest+then-cells-gt-MOST_CELLS w ↦
+          let cells : w.cells.result ≡ cells_of (tables_at bs) = w.cells.ensures ∙ ap cells_of of_tables.1 in
           let many : leb (cells_of (tables_at bs)) 4096 ≡ false = lt-leb _ _ (omega arith) in
           grind (arith, nat_tests)
     ] in
@@ -70,7 +70,7 @@ returns c =
     let of_kind = kind_some (get_or bs 3 0) _ _ c.try_from.ensures c.in_ok-ok.ensures.value in
     let of_tables = cond_some (all_below (entry_good bs (get_or bs 2 0)) 8) (tables_at bs) c.in_ok-tables.field-0 c.in_ok-tables.ensures in
     let most : c.longest.result ≡ longest (kind_of (get_or bs 3 0)) = c.longest.ensures ∙ ap longest of_kind.0 in
-    let cells : c.first_cell.result ≡ cells_of (tables_at bs) = c.first_cell.ensures ∙ ap (λ ts. first_cell ts 8) of_tables.1 ∙ all_cells bs in
+    let cells : c.cells.result ≡ cells_of (tables_at bs) = c.cells.ensures ∙ ap cells_of of_tables.1 in
     let few : leb (pair_at bs 4) (longest (kind_of (get_or bs 3 0))) ≡ true = le-leb _ _ (omega arith) in
     let small : leb (cells_of (tables_at bs)) 4096 ≡ true = le-leb _ _ (omega arith) in
     let rest : c.rest_is_zero.result ≡ header_good bs = grind (arith, nat_tests) in
