@@ -68,6 +68,7 @@ pub fn check(source: &Labelled, hides: bool) -> Result<(), Refusal>
 {
     let mut masks = Masks::new();
     for (place, instruction) in source.code.iter().enumerate() {
+        // A plan has one entry more than the code, so it is read by the place.
         let secret = source.plan[place];
         let arrival = Arrival {
             secret,

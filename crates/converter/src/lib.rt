@@ -24,12 +24,15 @@ mod check;
 mod labelled;
 mod places;
 
+/// The most steps that a result may make.
+const MOST_STEPS: usize = 1_000_000;
+
 // Whether the result has few enough steps, and a list of `room` entries can take it.
 fn size_fits(code: &[Instruction], room: usize) -> Result<(), Refusal>
     requires { Countable code.now }
     ensures { refused_by result ≡ size_refusal code.now room }
 {
-    if most_steps_of(code) > 1_000_000 {
+    if most_steps_of(code) > MOST_STEPS {
         return Err(Reason::TooManySteps.into());
     }
     if room < code.len() {
@@ -43,13 +46,14 @@ fn attempt(source: &Program, hides: bool, room: usize) -> Result<Output, Refusal
     ensures answer { refused_by result ≡ convert_refusal source.now.header (code_of source.now) hides room }
     ensures result { IfOk result (λ out. out ≡ result_of source.now.header (code_of source.now)) }
 {
+    // A source has at most 200 places, and nothing is allocated.
     let mut sets = [0u16; 201];
     plan(source, &mut sets)?;
     let header = source.header();
     let labelled = Labelled {
         code: source.code(),
         tables: &header.tables,
-        plan: &sets[0..header.count as usize + 1],
+        plan: &sets[..header.count as usize + 1],
     };
     check(&labelled, hides)?;
     let out = convert_all(&labelled);

@@ -15,6 +15,8 @@ use labels::sets::has;
 use masks::masks::Masks;
 use program::opening::Marked;
 
+// Room for the longest group is asked at each, since it shrinks with what is written.
+
 fn if_place(out: &mut Output, masks: &Masks, condition: Register, secret: bool)
     requires { length out.old + 15 ≤ 3000 }
     ensures { out.new ≡ out.old ++ (if secret then secret_if (secrets_of masks.now.openings) condition else If condition ∷ []) }
@@ -70,6 +72,7 @@ fn convert_one(
             op_group(out, op, Site { place, mask }, source.tables)
         }
         Instruction::If { condition } => {
+            // A plan has one entry more than the code, so it is read by the place.
             let secret = source.plan[place];
             if_place(out, masks, condition, has(secret, condition))
         }
@@ -87,6 +90,7 @@ pub fn convert_all(source: &Labelled) -> Output
     let mut masks = Masks::new();
     for (place, instruction) in source.code.iter().enumerate() {
         convert_one(&mut out, source, &masks, place, *instruction);
+        // A plan has one entry more than the code, so it is read by the place.
         masks.pass(*instruction, place, source.plan[place]);
     }
     out

@@ -10,6 +10,7 @@ use crate::price::Price;
 use instructions::{Instruction, Op};
 use stack::Stack;
 
+// A number and no Option, since contracts give the number that is held.
 /// What is larger is held at this.
 const HELD: usize = 1_000_001;
 

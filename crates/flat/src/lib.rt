@@ -17,6 +17,17 @@ pub struct Flat {
     pub cells: Vec<u32>,
 }
 
+impl Flat {
+    /// Gives the cells that count.
+    pub fn into_cells(self) -> Vec<u32>
+        ensures { result.items ≡ counting self.cells.items }
+    {
+        let Flat { mut cells } = self;
+        cells.truncate(MOST);
+        cells
+    }
+}
+
 /// Gives back the cells of a memory, and its list with the marks in front.
 pub fn into_parts(memory: Leaf<Flat>) -> (Vec<u32>, Vec<Mark>)
     ensures cells { result.0 ≡ memory.cells.cells }

@@ -14,6 +14,9 @@ use memory::window::Window;
 use memory::{Access, Mark, Memory};
 use program::refusal::Refusal;
 
+/// A cost that is larger is held at this.
+const HELD: usize = 1_000_001;
+
 /// A scan of the whole table.
 #[derive(Clone, Copy)]
 pub struct FullScan;
@@ -92,7 +95,7 @@ impl Layer for FullScan {
             Access::Read => read,
             Access::Write => read.saturating_add(below.cost(Access::Write, len)),
         };
-        len.saturating_mul(turn).min(1_000_001)
+        len.saturating_mul(turn).min(HELD)
     }
 
     fn hides<M: Memory>(&self, _below: &M) -> bool {

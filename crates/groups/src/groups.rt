@@ -17,6 +17,7 @@ use program::header::Table;
 pub struct Site {
     pub place: usize,
     pub mask: Option<Register>,
+    ghost short: { place < 200 },
 }
 
 // What a load or a store goes to: the cell of a table of so many cells, at the index.
@@ -158,7 +159,6 @@ fn access_to(tables: &[Table; 8], table: u8, index: Register) -> Access
 // The beginning of a load or store: 24 keeps the first bad place.
 fn guard(out: &mut Output, site: Site, access: Access)
     requires room { length out.old + 11 ≤ 3000 }
-    requires place { site.place < 200 }
     ensures { out.new ≡ out.old ++ straight (guard site.mask access.cells site.place access.index) }
 {
     in_range(out, access.cells, access.index);
@@ -177,7 +177,6 @@ fn guard(out: &mut Output, site: Site, access: Access)
 // A load goes by the index in 26.
 fn load_group(out: &mut Output, site: Site, access: Access, target: Register)
     requires room { length out.old + 15 ≤ 3000 }
-    requires place { site.place < 200 }
     ensures { out.new ≡ out.old ++ straight (guard site.mask access.cells site.place access.index ++ load_end site.mask target access.table) }
 {
     guard(out, site, access);
@@ -197,7 +196,6 @@ fn load_group(out: &mut Output, site: Site, access: Access, target: Register)
 // A store goes by the index in 26: where 25 is 0, the cell gets what it had.
 fn store_group(out: &mut Output, site: Site, access: Access, from: Register)
     requires room { length out.old + 15 ≤ 3000 }
-    requires place { site.place < 200 }
     ensures { out.new ≡ out.old ++ straight (guard site.mask access.cells site.place access.index ++ store_end site.mask from access.table) }
 {
     guard(out, site, access);
@@ -261,7 +259,6 @@ pub fn mask_at(secrets: u8) -> Option<Register>
 /// Writes what an op at a source place becomes.
 pub fn op_group(out: &mut Output, op: Op, site: Site, tables: &[Table; 8])
     requires room { length out.old + 15 ≤ 3000 }
-    requires place { site.place < 200 }
     requires bound { bound_op 16 8 op ≡ true }
     ensures { out.new ≡ out.old ++ straight (op_group (lengths tables.now) site.mask site.place op) }
 {

@@ -10,6 +10,7 @@ use instructions::Instruction;
 use program::program::Program;
 use stack::Stack;
 
+// One row serves ifs and repeats: each reads only what its own kind needs.
 /// A bracket that closes, as a pass from the end meets it: where an if that fails goes, where its
 /// else goes, and where a repeat without rounds goes.
 #[derive(Clone, Copy, Default)]
@@ -63,6 +64,8 @@ fn note(
 pub fn resolve(program: &Program) -> [u16; 3000]
     ensures { Resolved (code_of program.now) result }
 {
+    // As long as the longest program, since nothing is allocated in a run; only brackets are looked up,
+    // so other places keep a 0.
     let mut jumps = [0; 3000];
     let mut closers = Stack::new(Closer::default());
     for (place, instruction) in program.code().iter().enumerate().rev() {

@@ -15,6 +15,7 @@ pub fn none_open<L: Copy + Default>() -> Openings<L>
     Openings::new()
 }
 
+// No code makes marked openings by it now; its contract carries the theory.
 /// An opening, with the label of its condition.
 pub fn mark<L>(opening: Opening, label: L) -> Marked<L>
     ensures value { result ≡ mark opening label }

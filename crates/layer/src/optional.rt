@@ -9,6 +9,8 @@ use memory::window::Window;
 use memory::{Access, Mark, Memory};
 use program::refusal::Refusal;
 
+// Each method names both arms: a memory and a layer have methods of different forms, so no one call
+// serves both.
 /// With no layer, a memory is as it is.
 impl<L: Layer> Layer for Option<L> {
     ghost over = { optional L.Layer.over };

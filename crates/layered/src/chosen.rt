@@ -18,6 +18,8 @@ pub enum Chosen {
 /// A memory with a layer on top that is chosen at run time, or with none.
 pub type Layered<M> = Over<Option<Chosen>, M>;
 
+// Each method names the arms: a trait whose methods are generic in the memory cannot be `dyn`, and no
+// closure can take a layer of either kind.
 impl Layer for Chosen {
     ghost use Rattle.layered.specs.Layers.{over_chosen};
     ghost use Rattle.layered.specs.Chosen.{chosen_lawful, chosen_sized, chosen_freed, chosen_counted, chosen_clears};

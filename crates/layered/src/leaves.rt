@@ -8,9 +8,6 @@ use leaf::cells::Cells;
 use memory::Mark;
 use std::alloc::{AllocError, Global};
 
-/// The most cells of a flat memory that count.
-const MOST: usize = 65536;
-
 // The makes are two and no more, and a pile gives its cells back: an enum, and no `dyn`.
 /// Cells of either make.
 #[derive(Drop)]
@@ -27,10 +24,7 @@ pub fn into_cells(leaf: Leaf, heap: Global) -> Result<Vec<u32>, AllocError>
 {
     let (cells, _list) = leaf.into_parts();
     match cells {
-        LeafCells::Flat(Flat { mut cells }) => {
-            cells.truncate(MOST);
-            Ok(cells)
-        }
+        LeafCells::Flat(cells) => Ok(cells.into_cells()),
         LeafCells::Banked(cells) => cells.into_cells(heap),
     }
 }

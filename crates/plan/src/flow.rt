@@ -20,9 +20,8 @@ fn read_by(value: Value, set: u16) -> bool
 {
     match value {
         Value::Const { .. } => false,
-        Value::Move { from } => has(set, from),
+        Value::Move { from } | Value::Shift { from, .. } => has(set, from),
         Value::Binary { left, right, .. } => has(set, left) || has(set, right),
-        Value::Shift { from, .. } => has(set, from),
     }
 }
 
@@ -65,8 +64,8 @@ fn leaving(op: Op, set: u16, masked: bool, tables: &[Table; 8]) -> u16
     }
 }
 
-// The list of sets is one that the caller of the plan hands in, so what each function leaves of it is said
-// at each, and not by a type that would own it.
+// How a list of sets grew speaks of before and after, which no invariant of one value can: so it is
+// said at each function.
 
 // Puts a set into that at `place`, and says whether that was news.
 fn raise(list: &mut [u16], place: usize, set: u16) -> bool

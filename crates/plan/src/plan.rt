@@ -25,6 +25,7 @@ fn pass_over(code: &[Instruction], tables: &[Table; 8], list: &mut [u16]) -> boo
     let mut masks = Masks::new();
     let mut changed = false;
     for (place, instruction) in code.iter().enumerate() {
+        // Read by its number, since the pass changes the list as it goes.
         let set = list[place];
         changed |= flow(*instruction, &masks, list, place, tables);
         masks.pass(*instruction, place, set);
@@ -66,7 +67,7 @@ pub fn plan(program: &Program, list: &mut [u16]) -> Result<(), Refusal>
     if list.len() < needed {
         return Err(Reason::NoRoomForResult.at(needed));
     }
-    let part = &mut list[0..needed];
+    let part = &mut list[..needed];
     clear(part, at_start(&header));
     settle(program.code(), &header, part);
     Ok(())

@@ -21,9 +21,7 @@ fn listed(ways: &[Way]) -> ArrayVec<Way, 3>
     requires { length ways.now ≤ 3 }
     ensures { result.items ≡ ways.now }
 {
-    let mut list = ArrayVec::new();
-    let _ = list.try_extend_from_slice(ways);
-    list
+    ArrayVec::try_from(ways).unwrap()
 }
 
 // The ways that the instruction at `place` settles.

@@ -19,6 +19,15 @@ pub struct Move {
     pub choice: Choice,
 }
 
+impl Move {
+    /// To a place, with this choice.
+    pub fn new(place: usize, choice: Choice) -> Move
+        ensures { Goes place choice result }
+    {
+        Move { place, choice }
+    }
+}
+
 /// The open repeats, the innermost on top.
 #[derive(Drop)]
 pub struct Repeats {
@@ -42,19 +51,13 @@ impl Repeats {
         ensures some { 0 < rounds → Goes next Inward result × (held self.new.open ≡ open_at next rounds ∷ held self.old.open) }
     {
         if rounds == 0 {
-            return Move {
-                place: past,
-                choice: Choice::Past,
-            };
+            return Move::new(past, Choice::Past);
         }
         let _ = self.open.push(OpenRepeat {
             start: next,
             left: rounds,
         });
-        Move {
-            place: next,
-            choice: Choice::Inward,
-        }
+        Move::new(next, Choice::Inward)
     }
 
     /// An again lowers the rounds left of its own repeat by one: the next round, or on.
@@ -67,15 +70,9 @@ impl Repeats {
         own.lower();
         if own.left == 0 {
             self.open.pop();
-            return Move {
-                place: next,
-                choice: Choice::Past,
-            };
+            return Move::new(next, Choice::Past);
         }
         self.open.swap(own);
-        Move {
-            place: own.start,
-            choice: Choice::Inward,
-        }
+        Move::new(own.start, Choice::Inward)
     }
 }

@@ -83,11 +83,13 @@ fn go<M: Memory>(
     let mut steps = 0;
     'turns: while !is_over(place, count) {
         let moved = state.step(at(program, place), place, &layout, memory);
+        // The list is the caller's; steps are counted, since they are answered, and places jump.
         visits[steps] = Visit {
             place: place as u16,
             choice: moved.choice,
         };
         steps += 1;
+        // Two ends, each with its own fact: at a fault, and past the last place.
         if moved.choice == Choice::Fault {
             return Outcome {
                 registers: state.registers,

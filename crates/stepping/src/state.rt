@@ -38,37 +38,19 @@ impl State {
         match instruction {
             Instruction::Do { op } => {
                 match perform(op, &layout.windows, &mut self.registers, memory) {
-                    Ok(()) => Move {
-                        place: next,
-                        choice: Choice::Onward,
-                    },
-                    Err(OutsideTable) => Move {
-                        place,
-                        choice: Choice::Fault,
-                    },
+                    Ok(()) => Move::new(next, Choice::Onward),
+                    Err(OutsideTable) => Move::new(place, Choice::Fault),
                 }
             }
             Instruction::If { condition } => {
                 if self.registers[condition as usize] == 0 {
-                    Move {
-                        place: target,
-                        choice: Choice::Past,
-                    }
+                    Move::new(target, Choice::Past)
                 } else {
-                    Move {
-                        place: next,
-                        choice: Choice::Inward,
-                    }
+                    Move::new(next, Choice::Inward)
                 }
             }
-            Instruction::Else => Move {
-                place: target,
-                choice: Choice::Onward,
-            },
-            Instruction::End => Move {
-                place: next,
-                choice: Choice::Onward,
-            },
+            Instruction::Else => Move::new(target, Choice::Onward),
+            Instruction::End => Move::new(next, Choice::Onward),
             Instruction::Repeat { count, most } => {
                 let rounds = self.registers[count as usize].min(most);
                 self.repeats.begin(rounds, next, target)

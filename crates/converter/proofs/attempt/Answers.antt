@@ -1,4 +1,4 @@
-use Rattle.std.proofs.Common.{◌≡◌, ◌+◌, ◌-◌, ◌≤◌, [], length, sym, ap, ◌∙◌, subst, arith}
+use Rattle.std.proofs.Common.{◌≡◌, ◌+◌, ◌≤◌, [], length, sym, ap, ◌∙◌, subst, arith}
 use Rattle.labels.specs.Sets.{sets}
 use Rattle.plan.specs.Planned.{Passable}
 use Rattle.machine.specs.Programs.{code_of}
@@ -13,7 +13,7 @@ pub invariant_of-labelled : goal.invariant_of-labelled
 invariant_of-labelled c =
     let m = c.args.source.now in
     let kind = source_there m.header.kind _ c.in_ok-plan.ensures.answer in
-    let n : (c.header-header.result.count + 1) - 0 ≡ length (code_of c.args.source.now) + 1 = omega (arith, code_long m, ap (λ h. h.count) c.header-header.ensures) in
+    let n : c.header-header.result.count + 1 ≡ length (code_of c.args.source.now) + 1 = omega (arith, code_long m, ap (λ h. h.count) c.header-header.ensures) in
     let el = plan_there m kind _ _ c.plan.new.list n c.in_ok-plan.ensures.list.0 in
     let ec = c.code.ensures in
     record {
@@ -26,7 +26,7 @@ pub size_fits-requires : goal.size_fits-requires
 size_fits-requires c =
     let m = c.args.source.now in
     let kind = source_there m.header.kind _ c.in_ok-plan.ensures.answer in
-    let n : (c.header-header.result.count + 1) - 0 ≡ length (code_of c.args.source.now) + 1 = omega (arith, code_long m, ap (λ h. h.count) c.header-header.ensures) in
+    let n : c.header-header.result.count + 1 ≡ length (code_of c.args.source.now) + 1 = omega (arith, code_long m, ap (λ h. h.count) c.header-header.ensures) in
     let el = plan_there m kind _ _ c.plan.new.list n c.in_ok-plan.ensures.list.0 in
     let eh = c.header-header.ensures in
     let ec = c.code.ensures in
