@@ -1,11 +1,11 @@
 // Bytes as pairs of hexadecimal digits, the high one first.
 #![tactic(auto)]
 
-ghost use Rattle.std.specs.Prelude.{◌≡◌, ℕ, List, MatchResult};
+ghost use Rattle.std.specs.Prelude.{◌≡◌, ℕ, List, MatchResult, alloc_error};
 ghost use Rattle.hexadecimal.specs.Spelling.{digit_of, byte_of, Spells};
 ghost use Rattle.hexadecimal.specs.declared.DecodeError.TheVariants.{NotHexadecimal, OutOfMemory};
 
-use std::alloc::{AllocFailed, Global};
+use std::alloc::{AllocError, AllocFailed, Global};
 use std::error::Error;
 use std::fmt;
 
@@ -34,14 +34,14 @@ pub fn byte(high: u8, low: u8) -> Option<u8>
 pub enum DecodeError {
     /// The text spells no bytes.
     NotHexadecimal,
-    OutOfMemory,
+    OutOfMemory(AllocError),
 }
 
 impl fmt::Display for DecodeError {
     fn fmt<W: fmt::Write>(&self, f: &mut fmt::Formatter<W>) -> fmt::Result {
         f.write_str(match self {
             Self::NotHexadecimal => "not hexadecimal",
-            Self::OutOfMemory => "out of memory",
+            Self::OutOfMemory(_) => "out of memory",
         })
     }
 }
@@ -49,10 +49,10 @@ impl fmt::Display for DecodeError {
 impl Error for DecodeError {}
 
 impl<T: Drop> From<AllocFailed<T>> for DecodeError {
-    ghost from_gives = { λ full e. e ≡ OutOfMemory };
+    ghost from_gives = { λ full e. e ≡ OutOfMemory alloc_error };
 
-    fn from(_full: AllocFailed<T>) -> DecodeError {
-        DecodeError::OutOfMemory
+    fn from(full: AllocFailed<T>) -> DecodeError {
+        DecodeError::OutOfMemory(full.into())
     }
 }
 
