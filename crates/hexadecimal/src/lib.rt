@@ -1,9 +1,13 @@
 // Bytes as pairs of hexadecimal digits, the high one first.
 #![tactic(auto)]
 
-ghost use Rattle.std.specs.Prelude.{◌≡◌, ℕ, List, MatchResult, alloc_error};
+ghost use Rattle.std.specs.Prelude.{◌≡◌, ℕ, List, Some, MatchResult, alloc_error};
 ghost use Rattle.hexadecimal.specs.Spelling.{digit_of, byte_of, Spells};
+ghost use Rattle.hexadecimal.specs.Wording.{decode_error_text};
 ghost use Rattle.hexadecimal.specs.declared.DecodeError.TheVariants.{NotHexadecimal, OutOfMemory};
+
+#[cfg(test)]
+mod tests;
 
 use std::alloc::{AllocError, AllocFailed, Global};
 use std::error::Error;
@@ -38,6 +42,8 @@ pub enum DecodeError {
 }
 
 impl fmt::Display for DecodeError {
+    ghost output = { λ why. Some (decode_error_text why) };
+
     fn fmt<W: fmt::Write>(&self, f: &mut fmt::Formatter<W>) -> fmt::Result {
         f.write_str(match self {
             Self::NotHexadecimal => "not hexadecimal",
@@ -64,6 +70,7 @@ pub fn decode(heap: Global, text: &[u8]) -> Result<Vec<u8>, DecodeError>
         return Err(DecodeError::NotHexadecimal);
     };
     let mut bytes = Vec::new(heap);
+    // A loop, since it stops at the first that cannot be read.
     for [high, low] in pairs {
         bytes.push(byte(*high, *low).ok_or(DecodeError::NotHexadecimal)?)?;
     }
