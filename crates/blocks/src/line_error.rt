@@ -9,7 +9,7 @@ pub enum LineError {
     Unreadable,
     /// The memory that it names is none.
     Unnamed(Unnamed),
-    OutOfMemory,
+    OutOfMemory(AllocError),
 }
 
 impl LineError {
@@ -20,14 +20,14 @@ impl LineError {
                 format!(in heap; "line {number}: it cannot be read: {line}")
             }
             LineError::Unnamed(why) => format!(in heap; "line {number}: {why}"),
-            LineError::OutOfMemory => Err(AllocError),
+            LineError::OutOfMemory(full) => Err(full),
         }
     }
 }
 
 impl From<AllocError> for LineError {
-    fn from(_full: AllocError) -> LineError {
-        LineError::OutOfMemory
+    fn from(full: AllocError) -> LineError {
+        LineError::OutOfMemory(full)
     }
 }
 
@@ -47,7 +47,7 @@ impl From<WordsError> for LineError {
     fn from(why: WordsError) -> LineError {
         match why {
             WordsError::Unreadable => LineError::Unnamed(Unnamed::Unreadable),
-            WordsError::OutOfMemory => LineError::OutOfMemory,
+            WordsError::OutOfMemory(full) => LineError::OutOfMemory(full),
         }
     }
 }

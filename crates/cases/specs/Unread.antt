@@ -8,8 +8,8 @@ use Rattle.cases.specs.declared.case_error.CaseError.TheVariants.{Unreadable, Ou
 
 abbrev pub without_image : DecodeError → CaseError
 without_image NotHexadecimal = Unreadable
-without_image NoMemoryToDecode = OutOfMemory
+without_image (NoMemoryToDecode full) = OutOfMemory full
 
 abbrev pub without_words : WordsError → CaseError
 without_words UnreadableWords = Unreadable
-without_words NoMemoryForWords = OutOfMemory
+without_words (NoMemoryForWords full) = OutOfMemory full

@@ -99,7 +99,7 @@ fn run_case(
 {
     let got = match came(heap, room, case) {
         Ok(answer) => answer,
-        Err(CaseError::OutOfMemory) => return Err(AllocError),
+        Err(CaseError::OutOfMemory(full)) => return Err(full),
         Err(why) => why.to_string(heap)?,
     };
     if got.as_str() == case.expected {

@@ -19,7 +19,7 @@ pub enum CaseError {
     /// Something that such a case gives is missing, or cannot be read.
     Unreadable,
     Refused(Refusal),
-    OutOfMemory,
+    OutOfMemory(AllocError),
 }
 
 impl fmt::Display for CaseError {
@@ -31,7 +31,7 @@ impl fmt::Display for CaseError {
                 let answer = Answer::Refused { refusal };
                 write!(f, "{answer}")
             }
-            Self::OutOfMemory => f.write_str("out of memory"),
+            Self::OutOfMemory(_) => f.write_str("out of memory"),
         }
     }
 }
@@ -47,10 +47,10 @@ impl From<Refusal> for CaseError {
 }
 
 impl From<AllocError> for CaseError {
-    ghost from_gives = { λ full e. e ≡ OutOfMemory };
+    ghost from_gives = { λ full e. e ≡ OutOfMemory full };
 
-    fn from(_full: AllocError) -> CaseError {
-        CaseError::OutOfMemory
+    fn from(full: AllocError) -> CaseError {
+        CaseError::OutOfMemory(full)
     }
 }
 
@@ -60,7 +60,7 @@ impl From<DecodeError> for CaseError {
     fn from(why: DecodeError) -> CaseError {
         match why {
             DecodeError::NotHexadecimal => CaseError::Unreadable,
-            DecodeError::OutOfMemory => CaseError::OutOfMemory,
+            DecodeError::OutOfMemory(full) => CaseError::OutOfMemory(full),
         }
     }
 }
@@ -71,7 +71,7 @@ impl From<WordsError> for CaseError {
     fn from(why: WordsError) -> CaseError {
         match why {
             WordsError::Unreadable => CaseError::Unreadable,
-            WordsError::OutOfMemory => CaseError::OutOfMemory,
+            WordsError::OutOfMemory(full) => CaseError::OutOfMemory(full),
         }
     }
 }

@@ -1,11 +1,15 @@
 // Bytes as pairs of hexadecimal digits, the high one first.
 #![tactic(auto)]
 
-ghost use Rattle.std.specs.Prelude.{◌≡◌, ℕ, List, MatchResult};
+ghost use Rattle.std.specs.Prelude.{◌≡◌, ℕ, List, Some, MatchResult, alloc_error};
 ghost use Rattle.hexadecimal.specs.Spelling.{digit_of, byte_of, Spells};
+ghost use Rattle.hexadecimal.specs.Wording.{decode_error_text};
 ghost use Rattle.hexadecimal.specs.declared.DecodeError.TheVariants.{NotHexadecimal, OutOfMemory};
 
-use std::alloc::{AllocFailed, Global};
+#[cfg(test)]
+mod tests;
+
+use std::alloc::{AllocError, AllocFailed, Global};
 use std::error::Error;
 use std::fmt;
 
@@ -34,14 +38,16 @@ pub fn byte(high: u8, low: u8) -> Option<u8>
 pub enum DecodeError {
     /// The text spells no bytes.
     NotHexadecimal,
-    OutOfMemory,
+    OutOfMemory(AllocError),
 }
 
 impl fmt::Display for DecodeError {
+    ghost output = { λ why. Some (decode_error_text why) };
+
     fn fmt<W: fmt::Write>(&self, f: &mut fmt::Formatter<W>) -> fmt::Result {
         f.write_str(match self {
             Self::NotHexadecimal => "not hexadecimal",
-            Self::OutOfMemory => "out of memory",
+            Self::OutOfMemory(_) => "out of memory",
         })
     }
 }
@@ -49,10 +55,10 @@ impl fmt::Display for DecodeError {
 impl Error for DecodeError {}
 
 impl<T: Drop> From<AllocFailed<T>> for DecodeError {
-    ghost from_gives = { λ full e. e ≡ OutOfMemory };
+    ghost from_gives = { λ full e. e ≡ OutOfMemory alloc_error };
 
-    fn from(_full: AllocFailed<T>) -> DecodeError {
-        DecodeError::OutOfMemory
+    fn from(full: AllocFailed<T>) -> DecodeError {
+        DecodeError::OutOfMemory(full.into())
     }
 }
 
@@ -64,6 +70,7 @@ pub fn decode(heap: Global, text: &[u8]) -> Result<Vec<u8>, DecodeError>
         return Err(DecodeError::NotHexadecimal);
     };
     let mut bytes = Vec::new(heap);
+    // A loop, since it stops at the first that cannot be read.
     for [high, low] in pairs {
         bytes.push(byte(*high, *low).ok_or(DecodeError::NotHexadecimal)?)?;
     }

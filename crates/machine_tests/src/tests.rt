@@ -4,6 +4,7 @@ use image::reader::read;
 use instructions::Instruction;
 use leaf::Leaf;
 use machine::visit::{Choice, Visit};
+use program::refusal::Reason;
 use run::{Outcome, run};
 use std::alloc::{AllocError, Global};
 use std::test::Fail;
@@ -21,8 +22,8 @@ struct Case {
     answer: Answer,
 }
 
-/// What a run came to, or the number of a refusal.
-type Answer = Result<Ran, u8>;
+/// What a run came to, or why it is refused.
+type Answer = Result<Ran, Reason>;
 
 /// Steps and marks of a run, register 0 after it, and where a fault was.
 #[derive(Clone, Copy, PartialEq, Eq, Debug)]
@@ -47,20 +48,21 @@ impl From<Outcome> for Ran {
 fn image_of(heap: Global, case: &Case) -> Result<Vec<u8>, AllocError> {
     let mut image = vec![in heap; 0u8; 64]?;
     let count = (case.body.len() & 0xff) as u8;
-    for (at, value) in [(0, 1), (4, count)] {
-        if let Some(byte) = image.get_mut(at) {
-            *byte = value;
-        }
-    }
+    put(&mut image, 0, 1);
+    put(&mut image, 4, count);
     for (at, value) in case.set {
-        if let Some(byte) = image.get_mut(*at) {
-            *byte = *value;
-        }
+        put(&mut image, *at, *value);
     }
     for row in case.body {
         image.extend_from_slice(row)?;
     }
     Ok(image)
+}
+
+fn put(image: &mut Vec<u8>, at: usize, value: u8) {
+    if let Some(byte) = image.get_mut(at) {
+        *byte = value;
+    }
 }
 
 /// What the run answers, and the visit list then: entries that were not filled are place 9,999.
@@ -79,9 +81,9 @@ fn answer(heap: Global, case: &Case) -> Result<(Answer, Vec<Visit>), AllocError>
     let answer = match read(&image, list) {
         Ok(program) => match run(&program, &mut memory, &entry, visits.as_mut_slice()) {
             Ok(outcome) => Ok(outcome.into()),
-            Err(refusal) => Err(refusal.number()),
+            Err(refusal) => Err(refusal.reason),
         },
-        Err(back) => Err(back.refusal.number()),
+        Err(back) => Err(back.refusal.reason),
     };
     Ok((answer, visits))
 }
@@ -114,7 +116,7 @@ const CASES: [Case; 3] = [
     Case {
         body: &[REPEAT_999, REPEAT_1000, AGAIN, AGAIN],
         cells: 3,
-        answer: Err(14),
+        answer: Err(Reason::TooManySteps),
         ..PAST
     },
     // a converted program with brackets, and registers past 15

@@ -1,5 +1,5 @@
 // Lists of words as text.
-ghost use Rattle.std.specs.Prelude.{◌≡◌, ◌≤◌, IfOk, vec_len};
+ghost use Rattle.std.specs.Prelude.{◌≡◌, ◌≤◌, IfOk, vec_len, alloc_error};
 ghost use Rattle.makes.specs.declared.words.WordsError.TheVariants.{Unreadable, OutOfMemory};
 
 use crate::make::MOST;
@@ -13,14 +13,14 @@ use std::num::ParseIntError;
 pub enum WordsError {
     /// They cannot be read, or do not fit where they go.
     Unreadable,
-    OutOfMemory,
+    OutOfMemory(AllocError),
 }
 
 impl fmt::Display for WordsError {
     fn fmt<W: fmt::Write>(&self, f: &mut fmt::Formatter<W>) -> fmt::Result {
         f.write_str(match self {
             Self::Unreadable => "words that cannot be read",
-            Self::OutOfMemory => "out of memory",
+            Self::OutOfMemory(_) => "out of memory",
         })
     }
 }
@@ -36,15 +36,15 @@ impl From<ParseIntError> for WordsError {
 }
 
 impl From<AllocError> for WordsError {
-    ghost from_gives = { λ full e. e ≡ OutOfMemory };
+    ghost from_gives = { λ full e. e ≡ OutOfMemory full };
 
-    fn from(_full: AllocError) -> WordsError {
-        WordsError::OutOfMemory
+    fn from(full: AllocError) -> WordsError {
+        WordsError::OutOfMemory(full)
     }
 }
 
 impl<T: Drop> From<AllocFailed<T>> for WordsError {
-    ghost from_gives = { λ full e. e ≡ OutOfMemory };
+    ghost from_gives = { λ full e. e ≡ OutOfMemory alloc_error };
 
     fn from(full: AllocFailed<T>) -> WordsError {
         AllocError::from(full).into()

@@ -6,6 +6,7 @@ use layer::Over;
 use leaf::Leaf;
 use memory::window::Window;
 use memory::{Mark, Memory};
+use program::refusal::Reason;
 use std::test::Fail;
 
 // Whether these are the marks seen.
@@ -18,16 +19,16 @@ fn table(first: usize, length: usize) -> Window {
     Window { first, length }
 }
 
-// The word that a read answers, or the number of its refusal.
-fn read<M: Memory>(memory: &mut M, table: Window, off: usize) -> Result<u32, u8> {
-    memory.read(table, off).map_err(|why| why.number())
+// The word that a read answers, or why it is refused.
+fn read<M: Memory>(memory: &mut M, table: Window, off: usize) -> Result<u32, Reason> {
+    memory.read(table, off).map_err(|why| why.reason)
 }
 
 fn scans<M: Memory>(memory: &mut M) -> bool {
     read(memory, table(0, 4), 3) == Ok(8)
         && memory.write(table(0, 4), 3, 9).is_ok()
         && saw(memory, &[0, 1, 2, 3, 0, 0, 1, 1, 2, 2, 3, 3])
-        && read(memory, table(0, 1), 0) == Err(31)
+        && read(memory, table(0, 1), 0) == Err(Reason::NoRoomForMarks)
 }
 
 #[test]
@@ -43,9 +44,9 @@ fn a_scan_shows_every_offset(rt: HostRuntime) -> Result<(), Fail> {
 
 fn divides<M: Memory>(memory: &mut M) -> bool {
     let seen = read(memory, table(0, 4), 2) == Ok(7) && saw(memory, &[0, 0, 1, 1]);
-    let outside = read(memory, table(0, 4), 4) == Err(30)
-        && read(memory, table(0, 0), 0) == Err(30)
-        && read(memory, table(usize::MAX, 4), 0) == Err(30);
+    let outside = read(memory, table(0, 4), 4) == Err(Reason::OutsideTable)
+        && read(memory, table(0, 0), 0) == Err(Reason::OutsideTable)
+        && read(memory, table(usize::MAX, 4), 0) == Err(Reason::OutsideTable);
     memory.clear();
     seen && outside && memory.free() == 9
 }

@@ -87,5 +87,8 @@ fn numbers_of_reasons(rt: HostRuntime) {
     assert_eq!(rt; Reason::BadBracket.at(0).number(), 6);
     assert_eq!(rt; Reason::TooDeep.at(0).number(), 7);
     assert_eq!(rt; Reason::NoRoomForCode.at(0).number(), 8);
+    assert_eq!(rt; Reason::TooManySteps.at(0).number(), 14);
     assert_eq!(rt; Reason::NoRoomForImage.at(0).number(), 16);
+    assert_eq!(rt; Reason::OutsideTable.at(0).number(), 30);
+    assert_eq!(rt; Reason::NoRoomForMarks.at(0).number(), 31);
 }
