@@ -56,6 +56,7 @@ impl<T: Copy> Stack<T> {
     pub fn swap(&mut self, item: T)
         ensures { items self.new.cells self.new.depth ≡ swapped item (items self.old.cells self.old.depth) }
     {
+        // By number: a write through `last_mut` was tried, and left three goals where this leaves one.
         if self.depth > 0 {
             self.cells[self.depth - 1] = item;
         }
