@@ -57,6 +57,7 @@ fn fill(code: &[[u8; 8]], list: &mut Vec<Instruction>)
     requires { length code.now ≤ length list.old.items }
     ensures { list.new.items ≡ map instruction_of code.now ++ drop (length code.now) list.old.items }
 {
+    // Written by number: of what zip over iter_mut leaves no proof can know.
     for (place, bytes) in code.iter().enumerate() {
         list[place] = Fields::from_bytes(*bytes).into();
     }

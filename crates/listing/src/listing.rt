@@ -67,6 +67,7 @@ fn write_code<W: fmt::Write>(
 }
 
 fn note_at(labels: Option<&[u16]>, place: usize, instruction: Instruction) -> SecretNote {
+    // No plan shows as the empty set does: nothing.
     let secret = labels
         .and_then(|labels| labels.get(place))
         .copied()

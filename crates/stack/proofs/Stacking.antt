@@ -1,7 +1,9 @@
 -- What a stack holds after each of its changes.
-use Rattle.std.proofs.Common.{◌≡◌, ℕ, ◌+◌, ◌-◌, ◌<◌, ◌≤◌, List, [], ◌∷◌, reverse, length, get_or, take, set, sym, ap, ◌∙◌, arith, length-take}
-use Rattle.std.proofs.lemmas.List.{length-reverse, reverse-append, take_more, take_more_set}
-use Rattle.stack.specs.Items.{items, below, swapped}
+use Rattle.std.proofs.Common.{◌≡◌, ℕ, ◌+◌, ◌-◌, ◌<◌, ◌≤◌, List, [], ◌∷◌, reverse, length, get_or, take, set, refl, sym, ap, ◌∙◌, arith, length-take}
+use Rattle.std.proofs.lemmas.List.{length-reverse, reverse-append, take_all, take_more, take_more_set}
+use Rattle.std.specs.List.{slice_get}
+use Rattle.std.proofs.lemmas.Option.{slice_get-get_or}
+use Rattle.stack.specs.Items.{items, top, below, swapped}
 
 module _ {X : Type 0} (cells : List X) where
   pub length-items : (depth : ℕ) → depth ≤ length cells → length (items cells depth) ≡ depth
@@ -28,3 +30,11 @@ items_swap cells depth x p h =
     ap (items (set cells (depth - 1) x)) (sym s)
     ∙ items_push cells (depth - 1) x (omega arith)
     ∙ ap (swapped x) (sym (items_top cells depth x p h))
+
+-- the last of a list is the top once it is turned round
+pub last_top : {X : Type 0} (xs : List X) → slice_get xs (length xs - 1) ≡ top (reverse xs)
+last_top [] = refl
+last_top (x ∷ xs) =
+    let n = length (x ∷ xs) in
+    slice_get-get_or (x ∷ xs) (n - 1) x (omega arith)
+    ∙ ap top (sym (items_top (x ∷ xs) n x (omega arith) (omega arith)) ∙ ap reverse (take_all n (x ∷ xs) (omega arith)))

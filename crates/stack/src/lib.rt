@@ -11,8 +11,9 @@ pub const DEEPEST: usize = 8;
 #[derive(Clone, Copy, PartialEq, Eq, Debug)]
 pub struct Full;
 
-/// Its cells lie in the value itself, since nothing here allocates. `ArrayVec` of the library would
-/// want a default of what it holds, and an opening has none.
+// Contracts see what it holds by one word, `held`; an `impl Model` would only save that word.
+/// Its cells lie in the value itself, since nothing here allocates. `ArrayVec` of the library asks for
+/// a default of what it holds; this asks for none, and may not ask more of its callers now.
 #[derive(Drop)]
 pub struct Stack<T> {
     cells: [T; 8],
@@ -35,10 +36,7 @@ impl<T: Copy> Stack<T> {
     pub fn top(&self) -> Option<T>
         ensures { result ≡ top (items self.now.cells self.now.depth) }
     {
-        if self.depth == 0 {
-            return None;
-        }
-        Some(self.cells[self.depth - 1])
+        self.cells[..self.depth].last().copied()
     }
 
     /// Puts one on top; where there is no room nothing changes.
@@ -58,6 +56,7 @@ impl<T: Copy> Stack<T> {
     pub fn swap(&mut self, item: T)
         ensures { items self.new.cells self.new.depth ≡ swapped item (items self.old.cells self.old.depth) }
     {
+        // By number: a write through `last_mut` was tried, and left three goals where this leaves one.
         if self.depth > 0 {
             self.cells[self.depth - 1] = item;
         }

@@ -1,9 +1,8 @@
-use Rattle.std.proofs.Common.{sym, ap, arith}
-use Rattle.stack.specs.Items.{top}
-use Rattle.stack.proofs.Stacking.{items_top}
+use Rattle.std.proofs.Common.{◌∙◌, take}
+use Rattle.stack.proofs.Stacking.{last_top}
 use Rattle.stack.proofs.Stack.top.Goals as goal
 
 pub returns : goal.returns
 returns g c =
     let s = c.args.self.now in
-    ap top (sym (items_top s.cells s.depth c.index-self-self.result (omega (arith, c.if-self-eq0.false)) (omega (arith, s.few, s.room))))
+    c.copied.ensures ∙ c.last.ensures.value ∙ last_top (take s.depth s.cells)
