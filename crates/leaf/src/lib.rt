@@ -1,8 +1,10 @@
 // A memory with cells of its own, whatever these are.
 #![tactic(auto)]
 
-ghost use Rattle.std.specs.Prelude.{◌≡◌};
-ghost use Rattle.leaf.specs.Leaves.{leaf};
+ghost use Rattle.std.specs.Prelude.{◌≡◌, ◌+◌, ◌-◌, ◌<◌, length, MatchResult, slice_set};
+ghost use Rattle.program.specs.Refusals.{refused_by};
+ghost use Rattle.memory.specs.Accesses.{denial};
+ghost use Rattle.leaf.specs.Leaves.{leaf, limit_of};
 ghost use Rattle.std.proofs.Common.{rules};
 
 use crate::cells::Cells;
@@ -43,6 +45,18 @@ impl<C: Cells> Leaf<C> {
         let Leaf { cells, seen } = self;
         (cells, seen.into_list())
     }
+
+    // Notes the mark of the cell at `off`, and says which cell that is, or denies the access.
+    fn touch(&mut self, table: Window, off: usize) -> Result<usize, Refusal>
+        ensures denied { refused_by result ≡ denial (length (C.Cells.words self.old.cells)) table.first table.length off 1 (limit_of self.old.seen.list.items - self.old.seen.count) }
+        ensures cells { self.new.cells ≡ self.old.cells }
+        ensures seen { MatchResult result (λ cell. (cell ≡ table.first + off) × (cell < length (C.Cells.words self.old.cells)) × (self.new.seen.list.items ≡ slice_set self.old.seen.list.items self.old.seen.count (C.Cells.shown self.old.cells cell)) × (self.new.seen.count ≡ self.old.seen.count + 1)) (λ _. self.new.seen ≡ self.old.seen) }
+    {
+        denial(self.size(), table, off, 1, self.free())?;
+        let cell = table.first + off;
+        self.seen.note(self.cells.mark(cell));
+        Ok(cell)
+    }
 }
 
 impl<C: Cells> Memory for Leaf<C> {
@@ -51,16 +65,12 @@ impl<C: Cells> Memory for Leaf<C> {
     ghost lawful = { Prim.search rules };
 
     fn read(&mut self, table: Window, off: usize) -> Result<u32, Refusal> {
-        denial(self.size(), table, off, 1, self.free())?;
-        let cell = table.first + off;
-        self.seen.note(self.cells.mark(cell));
+        let cell = self.touch(table, off)?;
         Ok(self.cells.get(cell))
     }
 
     fn write(&mut self, table: Window, off: usize, word: u32) -> Result<(), Refusal> {
-        denial(self.size(), table, off, 1, self.free())?;
-        let cell = table.first + off;
-        self.seen.note(self.cells.mark(cell));
+        let cell = self.touch(table, off)?;
         self.cells.set(cell, word);
         Ok(())
     }
