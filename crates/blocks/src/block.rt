@@ -2,6 +2,7 @@
 ghost use Rattle.std.specs.Prelude.{◌≤◌};
 
 use crate::calls::call_of;
+use crate::line::{Asked, Line};
 use crate::line_error::LineError;
 use layered::leaves::into_cells;
 use layered::pile;
@@ -49,12 +50,12 @@ impl fmt::Display for Missing {
 }
 
 impl Block {
-    pub fn begin(heap: Global, number: usize, head: &str) -> Result<Block, AllocError> {
-        let (id, rest) = head.split_once(' ').unwrap_or((head, ""));
+    pub fn begin(heap: Global, head: Line) -> Result<Block, AllocError> {
+        let (id, rest) = head.text.split_once(' ').unwrap_or((head.text, ""));
         let state = match pile_of(heap, rest) {
             Ok(pile) => State::Open { pile, seen: false },
             Err(error) => State::Wrong {
-                why: error.text(heap, number, head)?,
+                why: error.text(heap, head)?,
             },
         };
         let id = String::from_str(heap, id)?;
@@ -73,9 +74,9 @@ impl Block {
     }
 
     /// The block after a line.
-    pub fn after(self, heap: Global, number: usize, line: &str) -> Result<Block, AllocError> {
+    pub fn after(self, heap: Global, line: Line) -> Result<Block, AllocError> {
         let Block { id, state } = self;
-        let state = hold(heap, state, number, line)?;
+        let state = hold(heap, state, line)?;
         Ok(Block { id, state })
     }
 }
@@ -107,51 +108,42 @@ fn pile_of(heap: Global, text: &str) -> Result<Pile, LineError> {
 }
 
 // Holds a line to what it should be, unless one before it was wrong.
-fn hold(heap: Global, state: State, number: usize, line: &str) -> Result<State, AllocError> {
+fn hold(heap: Global, state: State, line: Line) -> Result<State, AllocError> {
     if let State::Wrong { why } = state {
         return Ok(State::Wrong { why });
     }
-    let (what, expected) = parts(line);
-    let why = match got(heap, state, what) {
+    let (asked, expected) = line.parts();
+    let why = match got(heap, state, asked) {
         Ok((state, got)) => {
             if got.as_str() == expected {
                 return Ok(state);
             }
-            format!(in heap; "line {number}: expected {line}, got {got}")?
+            let number = line.number;
+            let text = line.text;
+            format!(in heap; "line {number}: expected {text}, got {got}")?
         }
-        Err(error) => error.text(heap, number, line)?,
+        Err(error) => error.text(heap, line)?,
     };
     Ok(State::Wrong { why })
 }
 
-// What a line asks for, and what it expects.
-fn parts(line: &str) -> (&str, &str) {
-    if let Some(marks) = line.strip_prefix("seen ") {
-        return ("seen", marks);
-    }
-    if let Some(cells) = line.strip_prefix("cells ") {
-        return ("cells", cells);
-    }
-    line.split_once(" = ").unwrap_or((line, ""))
-}
-
-// What a line asks for, and the state after it.
-fn got(heap: Global, state: State, what: &str) -> Result<(State, String), LineError> {
+// What is asked for, and the state after it.
+fn got(heap: Global, state: State, asked: Asked) -> Result<(State, String), LineError> {
     let State::Open { mut pile, seen } = state else {
         return Err(LineError::Unreadable);
     };
-    match what {
-        "cells" => {
+    match asked {
+        Asked::Cells => {
             let cells = into_cells(pile::into_leaf(pile), heap)?;
             let text = Words { words: &cells }.to_string(heap)?;
             Ok((State::Emptied { seen }, text))
         }
-        "seen" => {
+        Asked::Seen => {
             let text = Seen { memory: &pile }.to_string(heap)?;
             Ok((State::Open { pile, seen: true }, text))
         }
-        _ => {
-            let text = call::perform(&mut pile, call_of(heap, what)?).to_string(heap)?;
+        Asked::Call(words) => {
+            let text = call::perform(&mut pile, call_of(heap, words)?).to_string(heap)?;
             Ok((State::Open { pile, seen }, text))
         }
     }

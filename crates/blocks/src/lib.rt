@@ -6,9 +6,11 @@ ghost use Rattle.std.specs.Prelude.{◌≤◌, IfOk};
 
 mod block;
 mod calls;
+mod line;
 mod line_error;
 
 use block::{Block, Missing, close};
+use line::Line;
 use std::alloc::{AllocError, Global};
 use tally::report::Report;
 
@@ -18,9 +20,9 @@ pub fn run(heap: Global, text: &str) -> Result<Report, AllocError>
 {
     let mut report = Report::new(heap);
     let mut block = None;
-    for (index, line) in text.lines().enumerate() {
+    for (index, text) in text.lines().enumerate() {
         let number = index.saturating_add(1);
-        block = take_line(heap, block, number, line, &mut report)?;
+        block = take_line(heap, block, Line { number, text }, &mut report)?;
     }
     if let Some(block) = block {
         close(heap, block, Some(Missing::End), &mut report)?;
@@ -31,29 +33,35 @@ pub fn run(heap: Global, text: &str) -> Result<Report, AllocError>
 fn take_line(
     heap: Global,
     block: Option<Block>,
-    number: usize,
-    line: &str,
+    line: Line,
     report: &mut Report,
 ) -> Result<Option<Block>, AllocError>
     ensures { report.old.tally.agree ≤ report.old.tally.all → report.new.tally.agree ≤ report.new.tally.all }
 {
-    if line.is_empty() {
+    if line.text.is_empty() {
         return Ok(block);
     }
-    if let Some(head) = line.strip_prefix("memory ") {
+    if let Some(head) = line.text.strip_prefix("memory ") {
         if let Some(before) = block {
             close(heap, before, Some(Missing::End), report)?;
         }
-        return Ok(Some(Block::begin(heap, number, head)?));
+        return Ok(Some(Block::begin(
+            heap,
+            Line {
+                number: line.number,
+                text: head,
+            },
+        )?));
     }
     let Some(block) = block else {
+        let number = line.number;
         report.differs(format!(in heap; "line {number}: not in a block")?)?;
         return Ok(None);
     };
-    if line == "end" {
+    if line.text == "end" {
         let missing = block.missing();
         close(heap, block, missing, report)?;
         return Ok(None);
     }
-    Ok(Some(block.after(heap, number, line)?))
+    Ok(Some(block.after(heap, line)?))
 }

@@ -1,9 +1,11 @@
 // Why a line comes to nothing.
+use crate::line::Line;
 use makes::named::Unnamed;
 use makes::words::WordsError;
 use std::alloc::{AllocError, Global};
 use std::num::ParseIntError;
 
+// No Display: the text has the line and its number in it.
 #[derive(Clone, Copy)]
 pub enum LineError {
     Unreadable,
@@ -14,10 +16,12 @@ pub enum LineError {
 
 impl LineError {
     /// What is said of the line; only of memory that runs out is nothing said.
-    pub fn text(self, heap: Global, number: usize, line: &str) -> Result<String, AllocError> {
+    pub fn text(self, heap: Global, line: Line) -> Result<String, AllocError> {
+        let number = line.number;
         match self {
             LineError::Unreadable => {
-                format!(in heap; "line {number}: it cannot be read: {line}")
+                let text = line.text;
+                format!(in heap; "line {number}: it cannot be read: {text}")
             }
             LineError::Unnamed(why) => format!(in heap; "line {number}: {why}"),
             LineError::OutOfMemory(full) => Err(full),

@@ -82,110 +82,107 @@ pub fn run(heap: Global, room: &mut Room, text: &str) -> Result<Report, AllocErr
         }
         let number = index.saturating_add(1);
         match Case::parse(line) {
-            Some(case) => run_case(heap, room, case, &mut report)?,
+            Some(case) => case.run_case(heap, room, &mut report)?,
             None => report.differs(format!(in heap; "line {number}: not a case")?)?,
         }
     }
     Ok(report)
 }
 
-fn run_case(
-    heap: Global,
-    room: &mut Room,
-    case: Case,
-    report: &mut Report,
-) -> Result<(), AllocError>
-    ensures { vec_len report.old.notes ≤ 3 → vec_len report.new.notes ≤ 3 }
-{
-    let got = match came(heap, room, case) {
-        Ok(answer) => answer,
-        Err(CaseError::OutOfMemory(full)) => return Err(full),
-        Err(why) => why.to_string(heap)?,
-    };
-    if got.as_str() == case.expected {
-        report.tally.count(true);
-        return Ok(());
-    }
-    let kind = case.kind;
-    let id = case.id;
-    let expected = case.expected;
-    report.differs(format!(in heap; "{kind} {id}: expected {expected}, got {got}")?)
-}
-
-// What came of a case, in the words of the case files. A match shows all kinds at one sight; a table of
-// closures would be no shorter, and each way takes what it needs.
-fn came(heap: Global, room: &mut Room, case: Case) -> Result<String, CaseError> {
-    match case.kind {
-        "read" => read(heap, room, case),
-        "write" => write(heap, room, case),
-        "plan" => plan_case(heap, case),
-        "run" => run_program(heap, case),
-        _ => Err(CaseError::UnknownKind),
-    }
-}
-
-fn read(heap: Global, room: &mut Room, case: Case) -> Result<String, CaseError> {
-    room.take_image(case.value("img")?)?;
-    let answer = room.read(case.length("cap")?)?;
-    match answer {
-        Answer::Read { .. } => {
-            let most = most_steps(&program_of(heap, case)?);
-            Ok(format!(in heap; "{answer} most={most}")?)
+impl Case<'_> {
+    fn run_case(self, heap: Global, room: &mut Room, report: &mut Report) -> Result<(), AllocError>
+        ensures { vec_len report.old.notes ≤ 3 → vec_len report.new.notes ≤ 3 }
+    {
+        let got = match self.came(heap, room) {
+            Ok(answer) => answer,
+            Err(CaseError::OutOfMemory(full)) => return Err(full),
+            Err(why) => why.to_string(heap)?,
+        };
+        if got.as_str() == self.expected {
+            report.tally.count(true);
+            return Ok(());
         }
-        _ => Ok(answer.to_string(heap)?),
+        let kind = self.kind;
+        let id = self.id;
+        let expected = self.expected;
+        report.differs(format!(in heap; "{kind} {id}: expected {expected}, got {got}")?)
     }
-}
 
-fn write(heap: Global, room: &mut Room, case: Case) -> Result<String, CaseError> {
-    room.take_image(case.value("img")?)?;
-    let answer = room.write(case.length("cap")?)?;
-    Ok(answer.to_string(heap)?)
-}
-
-// The program of the case's image; an image that is refused counts as one that cannot be read.
-fn program_of(heap: Global, case: Case) -> Result<Program, CaseError> {
-    let image = hexadecimal::decode(heap, case.value("img")?.as_bytes())?;
-    let list = vec![in heap; Instruction::Again; Kind::Converted.longest() as usize]?;
-    reader::read(&image, list).map_err(|_| CaseError::Unreadable)
-}
-
-fn plan_case(heap: Global, case: Case) -> Result<String, CaseError> {
-    let program = program_of(heap, case)?;
-    let mut list = vec![in heap; 0xa5a5u16; case.length("cap")?]?;
-    plan(&program, &mut list)?;
-    list.truncate((program.header().count as usize).saturating_add(1));
-    let labels = Labels { labels: &list };
-    Ok(format!(in heap; "ok {labels}")?)
-}
-
-// The memory that the case names, with its cells.
-fn pile_of(heap: Global, case: Case) -> Result<Pile, CaseError> {
-    let make: Make = case.value("mem")?.parse()?;
-    Ok(pile(heap, make, case.value("cells")?)?)
-}
-
-// The entry registers that the case gives.
-fn entry_of(heap: Global, case: Case) -> Result<[u32; 16], CaseError> {
-    let given = words(heap, case.value("regs")?)?;
-    let mut entry = [0; 16];
-    for (register, word) in entry.iter_mut().zip(&given) {
-        *register = *word;
+    // What came of a case, in the words of the case files. A match shows all kinds at one sight; a table of
+    // closures would be no shorter, and each way takes what it needs.
+    fn came(self, heap: Global, room: &mut Room) -> Result<String, CaseError> {
+        match self.kind {
+            "read" => self.read(heap, room),
+            "write" => self.write(heap, room),
+            "plan" => self.plan_case(heap),
+            "run" => self.run_program(heap),
+            _ => Err(CaseError::UnknownKind),
+        }
     }
-    Ok(entry)
-}
 
-fn run_program(heap: Global, case: Case) -> Result<String, CaseError> {
-    let program = program_of(heap, case)?;
-    let mut memory = pile_of(heap, case)?;
-    let entry = entry_of(heap, case)?;
-    let unvisited = Visit {
-        place: 0,
-        choice: Choice::Onward,
-    };
-    let mut visits = vec![in heap; unvisited; case.length("vcap")?]?;
-    let outcome = run::run(&program, &mut memory, &entry, &mut visits)?;
-    visits.truncate(outcome.steps);
-    Ok(ran(heap, outcome, &visits, memory)?)
+    fn read(self, heap: Global, room: &mut Room) -> Result<String, CaseError> {
+        room.take_image(self.value("img")?)?;
+        let answer = room.read(self.length("cap")?)?;
+        match answer {
+            Answer::Read { .. } => {
+                let most = most_steps(&self.program_of(heap)?);
+                Ok(format!(in heap; "{answer} most={most}")?)
+            }
+            _ => Ok(answer.to_string(heap)?),
+        }
+    }
+
+    fn write(self, heap: Global, room: &mut Room) -> Result<String, CaseError> {
+        room.take_image(self.value("img")?)?;
+        let answer = room.write(self.length("cap")?)?;
+        Ok(answer.to_string(heap)?)
+    }
+
+    // The program of the case's image; an image that is refused counts as one that cannot be read.
+    fn program_of(self, heap: Global) -> Result<Program, CaseError> {
+        let image = hexadecimal::decode(heap, self.value("img")?.as_bytes())?;
+        let list = vec![in heap; Instruction::Again; Kind::Converted.longest() as usize]?;
+        reader::read(&image, list).map_err(|_| CaseError::Unreadable)
+    }
+
+    fn plan_case(self, heap: Global) -> Result<String, CaseError> {
+        let program = self.program_of(heap)?;
+        let mut list = vec![in heap; 0xa5a5u16; self.length("cap")?]?;
+        plan(&program, &mut list)?;
+        list.truncate((usize::from(program.header().count)).saturating_add(1));
+        let labels = Labels { labels: &list };
+        Ok(format!(in heap; "ok {labels}")?)
+    }
+
+    // The memory that the case names, with its cells.
+    fn pile_of(self, heap: Global) -> Result<Pile, CaseError> {
+        let make: Make = self.value("mem")?.parse()?;
+        Ok(pile(heap, make, self.value("cells")?)?)
+    }
+
+    // The entry registers that the case gives.
+    fn entry_of(self, heap: Global) -> Result<[u32; 16], CaseError> {
+        let given = words(heap, self.value("regs")?)?;
+        let mut entry = [0; 16];
+        for (register, word) in entry.iter_mut().zip(&given) {
+            *register = *word;
+        }
+        Ok(entry)
+    }
+
+    fn run_program(self, heap: Global) -> Result<String, CaseError> {
+        let program = self.program_of(heap)?;
+        let mut memory = self.pile_of(heap)?;
+        let entry = self.entry_of(heap)?;
+        let unvisited = Visit {
+            place: 0,
+            choice: Choice::Onward,
+        };
+        let mut visits = vec![in heap; unvisited; self.length("vcap")?]?;
+        let outcome = run::run(&program, &mut memory, &entry, &mut visits)?;
+        visits.truncate(outcome.steps);
+        Ok(ran(heap, outcome, &visits, memory)?)
+    }
 }
 
 fn ran(

@@ -1,7 +1,8 @@
 // Why a case comes to nothing.
-ghost use Rattle.std.specs.Prelude.{◌≡◌};
+ghost use Rattle.std.specs.Prelude.{◌≡◌, Some};
 ghost use Rattle.cases.specs.declared.case_error.CaseError.TheVariants.{Unreadable, Refused, OutOfMemory};
 ghost use Rattle.cases.specs.Unread.{without_image, without_words};
+ghost use Rattle.cases.specs.Wording.{case_error_text};
 
 use hexadecimal::DecodeError;
 use makes::named::Unnamed;
@@ -23,6 +24,8 @@ pub enum CaseError {
 }
 
 impl fmt::Display for CaseError {
+    ghost output = { λ why. Some (case_error_text why) };
+
     fn fmt<W: fmt::Write>(&self, f: &mut fmt::Formatter<W>) -> fmt::Result {
         match *self {
             Self::UnknownKind => f.write_str("no way to run this kind of case"),

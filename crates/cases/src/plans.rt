@@ -1,4 +1,5 @@
 // A plan as text.
+use makes::commas::with_commas;
 use std::fmt;
 
 /// Sets of registers as hexadecimal numbers, separated by commas.
@@ -7,15 +8,20 @@ pub struct Labels<'a> {
     pub labels: &'a [u16],
 }
 
+#[derive(Clone, Copy)]
+struct Label {
+    set: u16,
+}
+
+impl fmt::Display for Label {
+    fn fmt<W: fmt::Write>(&self, f: &mut fmt::Formatter<W>) -> fmt::Result {
+        let set = self.set;
+        write!(f, "{set:x}")
+    }
+}
+
 impl fmt::Display for Labels<'_> {
     fn fmt<W: fmt::Write>(&self, f: &mut fmt::Formatter<W>) -> fmt::Result {
-        let mut labels = self.labels.iter();
-        if let Some(first) = labels.next() {
-            write!(f, "{first:x}")?;
-        }
-        for set in labels {
-            write!(f, ",{set:x}")?;
-        }
-        Ok(())
+        with_commas(f, self.labels.iter().map(|set| Label { set: *set }))
     }
 }

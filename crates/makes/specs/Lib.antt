@@ -1,3 +1,4 @@
 pub mod Makes
 pub mod Calls
 pub mod Begun
+pub mod Wording

@@ -7,7 +7,7 @@ use memory::{Access, Mark, Memory};
 use program::refusal::Refusal;
 use std::fmt;
 
-// Two of these are operations of `piles` too. Those drop their answers, so that neither enum could hold
+// Three of these are operations of `piles` too. Those drop their answers, so that neither enum could hold
 // the other and be plainer.
 #[derive(Clone, Copy)]
 pub enum Call {
@@ -48,20 +48,17 @@ pub enum Answer {
 fn read(answer: Result<u32, Refusal>) -> Answer
     ensures { result ≡ word_or answer }
 {
-    match answer {
-        Ok(word) => Answer::Word { word },
-        Err(refusal) => Answer::Refused { refusal },
-    }
+    answer.map_or_else(
+        |refusal| Answer::Refused { refusal },
+        |word| Answer::Word { word },
+    )
 }
 
 // What a write answers.
 fn wrote(answer: Result<(), Refusal>) -> Answer
     ensures { result ≡ done_or answer }
 {
-    match answer {
-        Ok(()) => Answer::Done,
-        Err(refusal) => Answer::Refused { refusal },
-    }
+    answer.map_or_else(|refusal| Answer::Refused { refusal }, |()| Answer::Done)
 }
 
 /// Makes one call.
@@ -106,6 +103,7 @@ impl fmt::Display for Answer {
             Answer::Seen { mark: Some(mark) } => write!(f, "{mark}"),
             Answer::Seen { mark: None } => f.write_str("none"),
             Answer::Done => f.write_str("ok"),
+            // The words of case files; the listing has others.
             Answer::Refused { refusal } => {
                 let number = refusal.number();
                 let place = refusal.place;

@@ -3,6 +3,7 @@
 
 pub mod built;
 pub mod call;
+pub mod commas;
 pub mod make;
 pub mod named;
 pub mod shown;

@@ -1,7 +1,8 @@
 // Piles by their names, bottom first: `flat:SIZE:LIST` or `banked:1024:LIST`, and then for each layer
 // `+scan` or `+lineEXPONENT`.
-ghost use Rattle.std.specs.Prelude.{◌≤◌, IfSome, IfOk};
+ghost use Rattle.std.specs.Prelude.{◌≤◌, Some, IfSome, IfOk};
 ghost use Rattle.makes.specs.Begun.{Begun};
+ghost use Rattle.makes.specs.Wording.{unnamed_text};
 
 use crate::built;
 use crate::make::{Kind, MOST, Make};
@@ -21,6 +22,8 @@ pub enum Unnamed {
 }
 
 impl fmt::Display for Unnamed {
+    ghost output = { λ why. Some (unnamed_text why) };
+
     fn fmt<W: fmt::Write>(&self, f: &mut fmt::Formatter<W>) -> fmt::Result {
         f.write_str(match self {
             Unnamed::Unreadable => "a memory that cannot be read",

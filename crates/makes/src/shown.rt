@@ -1,4 +1,5 @@
 // Words and marks as text.
+use crate::commas::with_commas;
 use memory::Memory;
 use std::fmt;
 
@@ -6,6 +7,19 @@ use std::fmt;
 #[derive(Clone, Copy)]
 pub struct Words<'a> {
     pub words: &'a [u32],
+}
+
+/// A word in hexadecimal.
+#[derive(Clone, Copy)]
+struct Word {
+    word: u32,
+}
+
+impl fmt::Display for Word {
+    fn fmt<W: fmt::Write>(&self, f: &mut fmt::Formatter<W>) -> fmt::Result {
+        let word = self.word;
+        write!(f, "{word:x}")
+    }
 }
 
 // How many words there are up to the last that is not 0.
@@ -18,15 +32,17 @@ fn counting(words: &[u32]) -> usize {
 
 impl fmt::Display for Words<'_> {
     fn fmt<W: fmt::Write>(&self, f: &mut fmt::Formatter<W>) -> fmt::Result {
-        let mut words = self.words.iter().take(counting(self.words));
-        let Some(first) = words.next() else {
+        let count = counting(self.words);
+        if count == 0 {
             return f.write_str("-");
-        };
-        write!(f, "{first:x}")?;
-        for word in words {
-            write!(f, ",{word:x}")?;
         }
-        Ok(())
+        with_commas(
+            f,
+            self.words
+                .iter()
+                .take(count)
+                .map(|word| Word { word: *word }),
+        )
     }
 }
 
@@ -38,14 +54,12 @@ pub struct Seen<'a, M> {
 
 impl<M: Memory> fmt::Display for Seen<'_, M> {
     fn fmt<W: fmt::Write>(&self, f: &mut fmt::Formatter<W>) -> fmt::Result {
-        let mut marks = (0..self.memory.marks()).filter_map(|j| self.memory.mark(j));
-        let Some(first) = marks.next() else {
+        let mut marks = (0..self.memory.marks())
+            .filter_map(|j| self.memory.mark(j))
+            .peekable();
+        if marks.peek().is_none() {
             return f.write_str("-");
-        };
-        write!(f, "{first}")?;
-        for mark in marks {
-            write!(f, ",{mark}")?;
         }
-        Ok(())
+        with_commas(f, marks)
     }
 }

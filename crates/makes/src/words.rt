@@ -1,5 +1,6 @@
 // Lists of words as text.
-ghost use Rattle.std.specs.Prelude.{◌≡◌, ◌≤◌, IfOk, vec_len, alloc_error};
+ghost use Rattle.std.specs.Prelude.{◌≡◌, ◌≤◌, Some, IfOk, vec_len, alloc_error};
+ghost use Rattle.makes.specs.Wording.{words_error_text};
 ghost use Rattle.makes.specs.declared.words.WordsError.TheVariants.{Unreadable, OutOfMemory};
 
 use crate::make::MOST;
@@ -17,6 +18,8 @@ pub enum WordsError {
 }
 
 impl fmt::Display for WordsError {
+    ghost output = { λ why. Some (words_error_text why) };
+
     fn fmt<W: fmt::Write>(&self, f: &mut fmt::Formatter<W>) -> fmt::Result {
         f.write_str(match self {
             Self::Unreadable => "words that cannot be read",
@@ -59,6 +62,7 @@ pub fn words(heap: Global, text: &str) -> Result<Vec<u32>, WordsError>
     if text == "-" {
         return Ok(words);
     }
+    // A loop, since it stops at the first that cannot be read.
     for part in text.split(',') {
         words.push(u32::from_str_radix(part, 16)?)?;
         if words.len() > MOST {
