@@ -141,7 +141,7 @@ impl Case<'_> {
     // The program of the case's image; an image that is refused counts as one that cannot be read.
     fn program_of(self, heap: Global) -> Result<Program, CaseError> {
         let image = hexadecimal::decode(heap, self.value("img")?.as_bytes())?;
-        let list = vec![in heap; Instruction::Again; Kind::Converted.longest() as usize]?;
+        let list = vec![in heap; Instruction::Again; usize::from(Kind::Converted.longest())]?;
         reader::read(&image, list).map_err(|_| CaseError::Unreadable)
     }
 
@@ -149,7 +149,7 @@ impl Case<'_> {
         let program = self.program_of(heap)?;
         let mut list = vec![in heap; 0xa5a5u16; self.length("cap")?]?;
         plan(&program, &mut list)?;
-        list.truncate((usize::from(program.header().count)).saturating_add(1));
+        list.truncate(usize::from(program.header().count).saturating_add(1));
         let labels = Labels { labels: &list };
         Ok(format!(in heap; "ok {labels}")?)
     }

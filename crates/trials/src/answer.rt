@@ -14,6 +14,7 @@ pub const UNTOUCHED: u8 = 0xa5;
 pub enum Answer {
     Read { kind: Kind, count: u16 },
     Written { length: usize },
+    // A refusal is one of the answers that a case expects, and no error of the call.
     Refused { refusal: Refusal },
     /// Bytes were written that are not those of the image.
     OtherBytes,

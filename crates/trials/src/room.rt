@@ -74,7 +74,7 @@ impl Room {
     pub fn write(&mut self, cap: usize) -> Result<Answer, AllocError>
         ensures { IfOk result (λ a. a ≡ write_answer self.old.image.items cap) }
     {
-        let enough = Kind::Converted.longest() as usize;
+        let enough = usize::from(Kind::Converted.longest());
         match try_read(self.heap, &self.image, &mut self.list, enough)? {
             Ok(program) => {
                 let answer = try_write(&program, &mut self.out, &self.image, cap);
