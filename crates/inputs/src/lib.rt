@@ -1,7 +1,7 @@
 // What a run starts from: entry registers, and the words of the tables.
 #![tactic(auto)]
 
-ghost use Rattle.std.specs.Prelude.{◌≡◌, replicate, IfOk, OnErr, is_ok, if◌then◌else◌, vec_len, nat_lt, slice_set};
+ghost use Rattle.std.specs.Prelude.{◌≡◌, replicate, IfOk, OnErr, Some, is_ok, if◌then◌else◌, vec_len, nat_lt, slice_set, codes};
 ghost use Rattle.program.specs.Headers.{first_cell};
 
 use program::program::Program;
@@ -15,6 +15,8 @@ use std::num::ParseIntError;
 pub struct NotAnInput;
 
 impl fmt::Display for NotAnInput {
+    ghost output = { λ _. Some (codes "not an input") };
+
     fn fmt<W: fmt::Write>(&self, f: &mut fmt::Formatter<W>) -> fmt::Result {
         f.write_str("not an input")
     }
