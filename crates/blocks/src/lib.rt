@@ -36,7 +36,7 @@ fn take_line(
     line: Line,
     report: &mut Report,
 ) -> Result<Option<Block>, AllocError>
-    // Its fields are public, so an invariant would ask more of who makes one.
+    // A report's fields are public, so an invariant would ask more of who makes one.
     ensures { report.old.tally.agree ≤ report.old.tally.all → report.new.tally.agree ≤ report.new.tally.all }
 {
     if line.text.is_empty() {

@@ -11,7 +11,8 @@ pub const DEEPEST: usize = 8;
 #[derive(Clone, Copy, PartialEq, Eq, Debug)]
 pub struct Full;
 
-// Contracts see what it holds by one word, `held`; an `impl Model` would only save that word.
+// Contracts of other crates see what it holds by one word, `held`, and an `impl Model` would save only that
+// word: no plainer.
 /// Its cells lie in the value itself, since nothing here allocates. `ArrayVec` of the library asks for
 /// a default of what it holds; this asks for none, and may not ask more of its callers now.
 #[derive(Drop)]
@@ -56,7 +57,7 @@ impl<T: Copy> Stack<T> {
     pub fn swap(&mut self, item: T)
         ensures { items self.new.cells self.new.depth ≡ swapped item (items self.old.cells self.old.depth) }
     {
-        // By number: a write through `last_mut` was tried, and left three goals where this leaves one.
+        // By number: no plainer through `last_mut`, which was tried and wants three answers for one.
         if self.depth > 0 {
             self.cells[self.depth - 1] = item;
         }

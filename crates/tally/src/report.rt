@@ -30,7 +30,7 @@ impl Report {
     pub fn differs(&mut self, note: String) -> Result<(), AllocError>
         ensures agree { self.new.tally.agree ≡ min self.old.tally.agree (2 ^ 64 - 1) }
         ensures all { self.new.tally.all ≡ min (self.old.tally.all + 1) (2 ^ 64 - 1) }
-        // Its fields are public, so an invariant would ask more of who makes one.
+        // A report's fields are public, so an invariant would ask more of who makes one.
         ensures few { vec_len self.old.notes ≤ 3 → vec_len self.new.notes ≤ 3 }
         ensures notes { self.new.notes.items ≡ (if is_ok result && nat_lt (vec_len self.old.notes) 3 then self.old.notes.items ++ note ∷ [] else self.old.notes.items) }
     {
