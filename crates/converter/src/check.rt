@@ -30,6 +30,7 @@ impl Arrival<'_> {
         has(self.secret, index) && !self.hides
     }
 
+    // Bounds are asked of what stands plain in a list of the caller's, and come from the program.
     // An index that shows, and then a store that would keep something secret in a public table.
     fn wrong_op(&self, op: Op) -> Option<Reason>
         requires { bound_op 16 8 op ≡ true }

@@ -17,6 +17,7 @@ mod part;
 mod pass;
 mod price;
 
+// What can be counted is asked of code that is in no program yet, so that no type of a program has it.
 /// The most steps of instructions that need not be in a program, held at 1,000,001.
 pub fn most_steps_of(code: &[Instruction]) -> usize
     requires { Countable code.now }

@@ -256,6 +256,7 @@ pub fn mask_at(secrets: u8) -> Option<Register>
     }
 }
 
+// Ops stand plain in a list of the caller's, so their bounds are asked here and come from the program.
 /// Writes what an op at a source place becomes.
 pub fn op_group(out: &mut Output, op: Op, site: Site, tables: &[Table; 8])
     requires room { length out.old + 15 ≤ 3000 }

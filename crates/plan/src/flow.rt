@@ -32,7 +32,8 @@ fn written(masked: bool, held: bool, read: bool) -> bool
     masked || read
 }
 
-// What leaves an op.
+// What leaves an op. Instructions stand plain in a list of the caller's, so their bounds are asked at each
+// function, and come from the program's invariant.
 fn leaving(op: Op, set: u16, masked: bool, tables: &[Table; 8]) -> u16
     requires { bound_op 16 8 op ≡ true }
     ensures { bits result ≡ leaves secrecy (secret_tables tables.now) masked op (bits set) }

@@ -49,6 +49,7 @@ fn store<M: Memory>(
     Ok(())
 }
 
+// Ops stand plain in a list of the caller's, so that they fit is asked here and comes from the program.
 /// Does an op; where its index is outside its table nothing changes.
 pub fn perform<M: Memory>(
     op: Op,
