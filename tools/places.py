@@ -50,7 +50,7 @@ POINTS = {
         ("a count beside a buffer", r"^\s*(pub )?(count|depth): usize,"),
         ("arrays side by side", r"\[usize; 8\],"),
         ("a fixed array of cells", r"^\s*(pub )?(cells|rows|list): (\[|Vec<(Mark|Instruction)>)"),
-        ("numbered fields", r"^\s*(pub )?(first|second|third|fourth): "),
+        ("numbered fields", r"^\s*(pub )?(first|second|third|fourth): Option<"),
     ],
     "7 which step to run": [
         ("a dispatch over kinds of the same step", r"Leaf::\w+\(memory\) =>|if self\.scanned|match mask \{"),

@@ -2,8 +2,8 @@
 ghost use Rattle.std.specs.Prelude.{◌≤◌};
 
 use crate::calls::call_of;
-use crate::line::{Asked, Line};
 use crate::line_error::LineError;
+use crate::lines::{Asked, Line};
 use layered::leaves::into_cells;
 use layered::pile;
 use layered::pile::Pile;

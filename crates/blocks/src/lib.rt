@@ -6,11 +6,11 @@ ghost use Rattle.std.specs.Prelude.{◌≤◌, IfOk};
 
 mod block;
 mod calls;
-mod line;
 mod line_error;
+mod lines;
 
 use block::{Block, Missing, close};
-use line::Line;
+use lines::Line;
 use std::alloc::{AllocError, Global};
 use tally::report::Report;
 

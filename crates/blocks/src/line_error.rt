@@ -1,5 +1,5 @@
 // Why a line comes to nothing.
-use crate::line::Line;
+use crate::lines::Line;
 use makes::named::Unnamed;
 use makes::words::WordsError;
 use std::alloc::{AllocError, Global};
