@@ -50,7 +50,7 @@ impl fmt::Display for Missing {
 }
 
 impl Block {
-    pub fn begin(heap: Global, head: Line) -> Result<Block, AllocError> {
+    pub(crate) fn begin(heap: Global, head: Line) -> Result<Block, AllocError> {
         let (id, rest) = head.text.split_once(' ').unwrap_or((head.text, ""));
         let state = match pile_of(heap, rest) {
             Ok(pile) => State::Open { pile, seen: false },
@@ -63,7 +63,7 @@ impl Block {
     }
 
     /// What is missing where the block ends here.
-    pub fn missing(&self) -> Option<Missing> {
+    pub(crate) fn missing(&self) -> Option<Missing> {
         match self.state {
             State::Open { seen: true, .. } => Some(Missing::Cells),
             State::Open { seen: false, .. } | State::Emptied { seen: false } => {
@@ -74,7 +74,7 @@ impl Block {
     }
 
     /// The block after a line.
-    pub fn after(self, heap: Global, line: Line) -> Result<Block, AllocError> {
+    pub(crate) fn after(self, heap: Global, line: Line) -> Result<Block, AllocError> {
         let Block { id, state } = self;
         let state = hold(heap, state, line)?;
         Ok(Block { id, state })
@@ -82,7 +82,7 @@ impl Block {
 }
 
 /// Counts a block, which agrees if no line was wrong and nothing is missing.
-pub fn close(
+pub(crate) fn close(
     heap: Global,
     block: Block,
     missing: Option<Missing>,

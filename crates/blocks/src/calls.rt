@@ -5,7 +5,7 @@ use memory::Access;
 use memory::window::Window;
 use std::alloc::Global;
 
-pub fn call_of(heap: Global, text: &str) -> Result<Call, LineError> {
+pub(crate) fn call_of(heap: Global, text: &str) -> Result<Call, LineError> {
     let words: Vec<&str> = text.split(' ').collect(heap)?;
     Ok(match words.as_slice() {
         ["read", base, len, off] => Call::Read {

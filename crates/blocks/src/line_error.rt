@@ -16,7 +16,7 @@ pub enum LineError {
 
 impl LineError {
     /// What is said of the line; only of memory that runs out is nothing said.
-    pub fn text(self, heap: Global, line: Line) -> Result<String, AllocError> {
+    pub(crate) fn text(self, heap: Global, line: Line) -> Result<String, AllocError> {
         let number = line.number;
         match self {
             LineError::Unreadable => {

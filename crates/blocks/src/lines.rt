@@ -17,7 +17,7 @@ pub enum Asked<'a> {
 
 impl<'a> Line<'a> {
     /// What the line asks for, and what it expects.
-    pub fn parts(self) -> (Asked<'a>, &'a str) {
+    pub(crate) fn parts(self) -> (Asked<'a>, &'a str) {
         if let Some(marks) = self.text.strip_prefix("seen ") {
             return (Asked::Seen, marks);
         }
