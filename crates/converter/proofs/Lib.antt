@@ -6,3 +6,4 @@ pub mod Bounded
 pub mod Left
 pub mod Results
 pub mod Short
+mod Within

@@ -1,13 +1,13 @@
 use Rattle.std.proofs.Common.{◌<◌, length, ap, ◌∙◌, rules}
 use Rattle.std.proofs.lemmas.List.{get_or_default}
 use Rattle.instructions.specs.declared.Instruction.TheVariants.{Again}
-use Rattle.program.specs.Bounds.{bound}
 use Rattle.program.proofs.Around.{around_none}
 use Rattle.brackets.specs.Labelled.{unmarked}
 use Rattle.labels.specs.Kinds.{secrecy}
 use Rattle.labels.specs.Sets.{sets, secret_tables}
 use Rattle.labels.proofs.Passing.{around_more, few_more}
 use Rattle.converter.specs.Refusing.{hidden_by, first_wrong}
+use Rattle.converter.proofs.Within.{within}
 use Rattle.converter.proofs.Passing.{wrong_pass}
 use Rattle.converter.proofs.check.check.Goals as goal
 
@@ -16,7 +16,7 @@ wrong-requires c =
     let s = c.args.source.now in
     let p = c.loop-place.place in
     let lt : p < length s.code.now = search rules in
-    ap (bound 16 8) (get_or_default s.code.now p _ Again lt) ∙ s.passable.bounds p lt
+    within s.code.now p _ s.passable lt
 
 pub pass-requires : goal.pass-requires
 pass-requires c =

@@ -1,7 +1,6 @@
 use Rattle.std.proofs.Common.{◌++◌, ◌<◌, length, ap, ◌∙◌, arith, rules}
 use Rattle.std.proofs.lemmas.List.{get_or_default}
 use Rattle.instructions.specs.declared.Instruction.TheVariants.{Again}
-use Rattle.program.specs.Bounds.{bound}
 use Rattle.program.proofs.Around.{around_none}
 use Rattle.brackets.specs.Labelled.{unmarked}
 use Rattle.labels.specs.Kinds.{secrecy}
@@ -9,6 +8,7 @@ use Rattle.labels.specs.Sets.{sets}
 use Rattle.labels.proofs.Passing.{around_more, few_more}
 use Rattle.groups.specs.Groups.{lengths}
 use Rattle.converter.specs.Conversion.{convert}
+use Rattle.converter.proofs.Within.{within}
 use Rattle.converter.proofs.Passing.{convert_more}
 use Rattle.converter.proofs.Short.{longer}
 use Rattle.converter.proofs.places.convert_all.Goals as goal
@@ -18,7 +18,7 @@ convert_one-requires-clause-bound c =
     let s = c.args.source.now in
     let p = c.loop-place.place in
     let lt : p < length s.code.now = search rules in
-    ap (bound 16 8) (get_or_default s.code.now p _ Again lt) ∙ s.passable.bounds p lt
+    within s.code.now p _ s.passable lt
 
 pub pass-requires : goal.pass-requires
 pass-requires c =
