@@ -51,6 +51,7 @@ impl fmt::Display for Missing {
 
 impl Block {
     pub(crate) fn begin(heap: Global, head: Line) -> Result<Block, AllocError> {
+        // Where no make stands behind the id, `pile_of` says that it cannot be read.
         let (id, rest) = head.text.split_once(' ').unwrap_or((head.text, ""));
         let state = match pile_of(heap, rest) {
             Ok(pile) => State::Open { pile, seen: false },

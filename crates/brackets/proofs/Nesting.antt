@@ -1,6 +1,6 @@
 -- Brackets pair exactly where the instructions are the writing-out of nested blocks.
-use Rattle.std.proofs.Common.{◌≡◌, ℕ, suc, ◌+◌, ◌<◌, ◌≤◌, Bool, true, false, ltb, List, [], ◌∷◌, length, Some, None, Option, sym, refl, ap, ◌∙◌, arith}
-use Rattle.std.proofs.lemmas.Bool.{ltb-true, lt-ltb}
+use Rattle.std.proofs.Common.{◌≡◌, ℕ, suc, ◌+◌, ◌<◌, ◌≤◌, ltb, List, [], ◌∷◌, length, None, Option, sym, refl, ap, ◌∙◌, arith}
+use Rattle.std.proofs.lemmas.Bool.{lt-ltb}
 use Rattle.instructions.specs.declared.Instruction.{Instruction}
 use Rattle.instructions.specs.declared.Instruction.TheVariants.{Do, If, Else, End, Repeat, Again}
 use Rattle.program.specs.declared.opening.Opening.{Opening}
@@ -11,24 +11,10 @@ use Rattle.program.specs.declared.refusal.Refusal.{Refusal}
 use Rattle.program.specs.Refusals.{unless, or_else}
 use Rattle.program.specs.Pairing.{pairing}
 use Rattle.program.specs.Blocks.{Block, done, one, if_then, if_else, loop, flat, depth, fin}
+use Rattle.program.proofs.Refusals.{no_some, opens}
 use Rattle.brackets.specs.Nesting.{PairedIsNested}
 
-no_some : {X : Type 0} {x : X} → Some x ≡ None → ⊥
-no_some e = let z : ◌≡◌ {A = ℕ} 0 1 = cc in omega arith
-
-both : (x y : Option Refusal) → or_else x y ≡ None → (x ≡ None) × (y ≡ None)
-both None y e = (refl, e)
-both (Some r) y e = absurd (no_some e)
-
--- an opening that is not refused has room
-room : (good : Bool) (why : Reason) (p : ℕ) → unless good why p ≡ None → good ≡ true
-room true why p e = refl
-room false why p e = absurd (no_some e)
-
 module _ (why : Reason) (os : List Opening) (p : ℕ) where
-  opens : (y : Option Refusal) → or_else (unless (ltb (length os) 8) why p) y ≡ None → (length os < 8) × (y ≡ None)
-  opens y e = let b = both _ y e in (ltb-true (length os) 8 (room (ltb (length os) 8) why p b.0), b.1)
-
   lets : (y : Option Refusal) → length os < 8 → or_else (unless (ltb (length os) 8) why p) y ≡ y
   lets y h = ap (λ b. or_else (unless b why p) y) (lt-ltb (length os) 8 h)
 
@@ -96,7 +82,7 @@ module _ (Note : Type 0) where
     built [] p [] h = (base done, f_base, refl)
     built [] p (o ∷ os) h = absurd (no_some h)
     built (Do op ∷ is) p os h = more (Do op) (built is (suc p) os h) (λ r f. (front (one op) r, front_fits _ f, front-flat _ (λ x. Do op ∷ x) (λ u js. refl) r))
-    built (If a ∷ is) p os h = more (If a) (built is (suc p) (Then p a ∷ os) (opens TooDeep os p _ h).1) (λ r f. on_if (note p) p a f)
+    built (If a ∷ is) p os h = more (If a) (built is (suc p) (Then p a ∷ os) (opens os p h).1) (λ r f. on_if (note p) p a f)
     built (Else ∷ is) p [] h = absurd (no_some h)
     built (Else ∷ is) p (Then q a ∷ os) h = more Else (built is (suc p) (Otherwise q a p ∷ os) h) (λ r f. on_else f)
     built (Else ∷ is) p (Otherwise q a m ∷ os) h = absurd (no_some h)
@@ -105,7 +91,7 @@ module _ (Note : Type 0) where
     built (End ∷ is) p (Then q a ∷ os) h = more End (built is (suc p) os h) (λ r f. (to_end done r, f_end f, refl))
     built (End ∷ is) p (Otherwise q a m ∷ os) h = more End (built is (suc p) os h) (λ r f. (to_end done r, f_else f, refl))
     built (End ∷ is) p (Loop q ∷ os) h = absurd (no_some h)
-    built (Repeat a k ∷ is) p os h = more (Repeat a k) (built is (suc p) (Loop p ∷ os) (opens TooDeep os p _ h).1) (λ r f. on_repeat p a k f)
+    built (Repeat a k ∷ is) p os h = more (Repeat a k) (built is (suc p) (Loop p ∷ os) (opens os p h).1) (λ r f. on_repeat p a k f)
     built (Again ∷ is) p [] h = absurd (no_some h)
     built (Again ∷ is) p (Then q a ∷ os) h = absurd (no_some h)
     built (Again ∷ is) p (Otherwise q a m ∷ os) h = absurd (no_some h)
@@ -119,19 +105,19 @@ module _ (Note : Type 0) where
   shallow done os p rest l h = (omega arith, h)
   shallow (one op b) os p rest l h = shallow b os (suc p) rest l h
   shallow (if_then n a t b) os p rest l h =
-      let o = opens TooDeep os p _ h in
+      let o = opens os p h in
       let x = shallow t (Then p a ∷ os) (suc p) (End ∷ flat b rest) o.0 o.1 in
       let y = shallow b os (suc (fin t (suc p))) rest l x.1 in
       (omega (arith, x.0, y.0), y.1)
   shallow (if_else n a t e b) os p rest l h =
-      let o = opens TooDeep os p _ h in
+      let o = opens os p h in
       let x = shallow t (Then p a ∷ os) (suc p) (Else ∷ flat e (End ∷ flat b rest)) o.0 o.1 in
       let m = fin t (suc p) in
       let y = shallow e (Otherwise p a m ∷ os) (suc m) (End ∷ flat b rest) o.0 x.1 in
       let z = shallow b os (suc (fin e (suc m))) rest l y.1 in
       (omega (arith, x.0, y.0, z.0), z.1)
   shallow (loop a k t b) os p rest l h =
-      let o = opens TooDeep os p _ h in
+      let o = opens os p h in
       let x = shallow t (Loop p ∷ os) (suc p) (Again ∷ flat b rest) o.0 o.1 in
       let y = shallow b os (suc (fin t (suc p))) rest l x.1 in
       (omega (arith, x.0, y.0), y.1)

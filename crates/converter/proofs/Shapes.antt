@@ -9,7 +9,7 @@ use Rattle.program.specs.declared.refusal.Refusal.{Refusal}
 use Rattle.program.specs.declared.refusal.Reason.TheVariants.{TooDeep}
 use Rattle.program.specs.Refusals.{unless, or_else}
 use Rattle.program.specs.Pairing.{pairing}
-use Rattle.machine.proofs.Around.{no_some, opens}
+use Rattle.program.proofs.Refusals.{no_some, opens}
 
 pub data Shape : Type 0 where
   in_then in_else in_loop : Shape

@@ -44,7 +44,7 @@ impl Arrival<'_> {
                     return Some(Reason::SecretIndex);
                 }
                 let kept = self.masked || has(self.secret, from) || has(self.secret, index);
-                (kept && !self.tables[table as usize].secret).then_some(Reason::PublicStore)
+                (kept && !self.tables[usize::from(table)].secret).then_some(Reason::PublicStore)
             }
         }
     }

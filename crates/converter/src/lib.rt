@@ -53,7 +53,7 @@ fn attempt(source: &Program, hides: bool, room: usize) -> Result<Output, Refusal
     let labelled = Labelled {
         code: source.code(),
         tables: &header.tables,
-        plan: &sets[..header.count as usize + 1],
+        plan: &sets[..usize::from(header.count) + 1],
     };
     check(&labelled, hides)?;
     let out = convert_all(&labelled);

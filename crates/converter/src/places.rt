@@ -15,7 +15,8 @@ use labels::sets::has;
 use masks::masks::Masks;
 use program::opening::Marked;
 
-// Room for the longest group is asked at each, since it shrinks with what is written.
+// Room for the longest group is asked at each, since it shrinks with what is written. The output and the masks are
+// both lent, and a place changes one of them at most: together they would be borrowed where one is needed.
 
 fn if_place(out: &mut Output, masks: &Masks, condition: Register, secret: bool)
     requires { length out.old + 15 ≤ 3000 }

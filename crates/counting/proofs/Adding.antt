@@ -15,7 +15,8 @@ use Rattle.memory.specs.declared.Access.TheVariants.{Read, Write}
 use Rattle.machine.specs.States.{held}
 use Rattle.machine.specs.Fits.{FitOp, Fit}
 use Rattle.machine.specs.Most.{Price, hold, price}
-use Rattle.machine.proofs.Around.{no_some, opens, closers, closers-is, around}
+use Rattle.program.proofs.Refusals.{no_some, opens}
+use Rattle.machine.proofs.Around.{closers, closers-is, around}
 use Rattle.counting.specs.declared.part.Part.{Part}
 use Rattle.counting.specs.Counting.{costs, no_price, priced, mark_price, part, innermost, arms, turns, entered, sums, Added}
 

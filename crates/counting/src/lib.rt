@@ -48,7 +48,7 @@ fn costs<M: Memory>(memory: &M, program: &Program) -> [TablePrice; 8]
     ensures wide { length result ≡ 8 }
 {
     program.header().tables.map(|table| {
-        let len = table.length as usize;
+        let len = usize::from(table.length);
         TablePrice {
             read: memory.cost(Access::Read, len),
             write: memory.cost(Access::Write, len),

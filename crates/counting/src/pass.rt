@@ -37,8 +37,8 @@ fn with_op(sum: usize, op: Op, prices: &Price) -> usize
 {
     let access = match op {
         Op::Set { .. } | Op::Pick { .. } => 0,
-        Op::Load { table, .. } => prices.tables[table as usize].read,
-        Op::Store { table, .. } => prices.tables[table as usize].write,
+        Op::Load { table, .. } => prices.tables[usize::from(table)].read,
+        Op::Store { table, .. } => prices.tables[usize::from(table)].write,
     };
     total(sum, prices.step, access)
 }

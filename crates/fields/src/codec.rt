@@ -57,6 +57,8 @@ fn store(from: Register, index: Register, table: u8) -> Instruction
     Instruction::Do { op }
 }
 
+// The ops' numbers are those of an image: an enum of them would be a third list of ops, beside
+// Instruction and ROWS.
 /// The instruction of these fields.
 impl From<Fields> for Instruction {
     ghost from_gives = { λ fields i. i ≡ decode fields };

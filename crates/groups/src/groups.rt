@@ -10,7 +10,8 @@ use crate::output::Output;
 use instructions::{BinaryOp, Op, Register, Value};
 use program::header::Table;
 
-// How much room a group asks for differs from group to group, so it is said at each, and not by a type.
+// How much room a group asks for differs from group to group, so it is said at each, and not by a type. The output
+// and the mask stay two: many groups go into one output, each behind a mask of its own place.
 
 /// A source place, and the register that masks it, where there is one.
 #[derive(Clone, Copy)]
@@ -151,7 +152,7 @@ fn access_to(tables: &[Table; 8], table: u8, index: Register) -> Access
 {
     Access {
         table,
-        cells: tables[table as usize].length,
+        cells: tables[usize::from(table)].length,
         index,
     }
 }

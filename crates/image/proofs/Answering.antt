@@ -12,6 +12,7 @@ use Rattle.program.specs.Bounds.{bound}
 use Rattle.program.specs.Firsts.{first_failing}
 use Rattle.program.specs.Pairing.{pairing}
 use Rattle.program.specs.Blocks.{Nested}
+use Rattle.program.proofs.Refusals.{both, passed}
 use Rattle.program.proofs.Firsts.{none_failing}
 use Rattle.fields.specs.declared.fields.Fields.{Fields}
 use Rattle.fields.specs.declared.rows.Limits.{Limits}
@@ -35,15 +36,6 @@ module _ (bs : List ℕ) (h : Header) (good : None ≡ header_refusal bs) (is : 
 
   pub after_fields : (o : Option Refusal) → None ≡ fields_refusal h (drop 64 bs) → o ≡ pairing [] 0 (instructions (drop 64 bs) h.count) → o ≡ image_refusal bs
   after_fields o f b = b ∙ ap (λ x. or_else x (pairing [] 0 (instructions (drop 64 bs) h.count))) f ∙ at_fields
-
--- nothing is refused by two checks exactly where neither refuses
-both : (x y : Option Refusal) → or_else x y ≡ None → (x ≡ None) × (y ≡ None)
-both None y e = (refl, e)
-both (Some r) y e = let z : ◌≡◌ {A = ℕ} 0 1 = cc in absurd (omega arith)
-
-passed : (b : Bool) (why : Reason) (p : ℕ) → unless b why p ≡ None → b ≡ true
-passed true why p e = refl
-passed false why p e = let z : ◌≡◌ {A = ℕ} 0 1 = cc in absurd (omega arith)
 
 -- an image that is not refused
 module _ (bs : List ℕ) (none : image_refusal bs ≡ None) where

@@ -10,6 +10,7 @@ use program::refusal::Refusal;
 use std::alloc::{AllocError, Global};
 use std::test::Fail;
 
+// The tests of runs have these two functions again: tests of one crate cannot call those of another.
 /// An empty source but for the header bytes that are set, and the instructions.
 fn image_of(heap: Global, set: &[(usize, u8)], code: &[[u8; 8]]) -> Result<Vec<u8>, AllocError> {
     let mut image = vec![in heap; 0u8; 64]?;

@@ -102,7 +102,7 @@ fn cell_of(program: &Program, name: &str) -> Option<usize> {
     let (table, index) = name.strip_prefix('t')?.split_once('.')?;
     let table = table.parse::<usize>().ok()?;
     let index = index.parse::<usize>().ok()?;
-    let length = program.header().tables.get(table)?.length as usize;
+    let length = usize::from(program.header().tables.get(table)?.length);
     if index >= length {
         return None;
     }

@@ -11,7 +11,8 @@ use Rattle.program.specs.declared.opening.Opening.{Opening}
 use Rattle.program.specs.declared.opening.Opening.TheVariants.{Then, Otherwise, Loop}
 use Rattle.program.specs.Pairing.{pairing}
 use Rattle.machine.specs.Machine.{closing, other, after_else}
-use Rattle.machine.proofs.Around.{no_some, opens, closers, closers-is, around}
+use Rattle.program.proofs.Refusals.{no_some, opens}
+use Rattle.machine.proofs.Around.{closers, closers-is, around}
 use Rattle.jumps.specs.declared.Closer.{Closer}
 use Rattle.jumps.specs.Jumps.{Jumps, closer, met, Noted}
 

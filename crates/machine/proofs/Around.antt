@@ -1,30 +1,15 @@
 -- What is open around each place of a program, seen from the instructions that are left.
-use Rattle.std.proofs.Common.{◌≡◌, ℕ, zero, suc, ◌-◌, ◌<◌, ◌≤◌, Bool, true, false, ltb, List, [], ◌∷◌, length, drop, is_some, Some, None, Option, refl, ap, arith}
-use Rattle.std.proofs.lemmas.Bool.{ltb-true}
+use Rattle.std.proofs.Common.{◌≡◌, ℕ, zero, suc, ◌-◌, ◌≤◌, false, List, [], ◌∷◌, length, drop, is_some, Some, None, Option, refl, ap, arith}
 use Rattle.instructions.specs.declared.Instruction.{Instruction}
 use Rattle.instructions.specs.declared.Instruction.TheVariants.{Do, If, Else, End, Repeat, Again}
 use Rattle.program.specs.declared.opening.Opening.{Opening}
 use Rattle.program.specs.declared.opening.Opening.TheVariants.{Then, Otherwise, Loop}
-use Rattle.program.specs.declared.refusal.Reason.{Reason}
-use Rattle.program.specs.declared.refusal.Reason.TheVariants.{TooDeep}
-use Rattle.program.specs.declared.refusal.Refusal.{Refusal}
-use Rattle.program.specs.Refusals.{unless, or_else}
 use Rattle.program.specs.Pairing.{pairing}
+use Rattle.program.proofs.Refusals.{no_some, opens}
 
 pub none : {X : Type 0} (x : Option X) → is_some x ≡ false → x ≡ None
 none None e = refl
-none (Some x) e = absurd (let z : ◌≡◌ {A = ℕ} 0 1 = cc in omega arith)
-
-pub no_some : {X : Type 0} {x : X} → Some x ≡ None → ⊥
-no_some e = let z : ◌≡◌ {A = ℕ} 0 1 = cc in omega arith
-
--- an opening that is not refused has room
-opens' : (good : Bool) (why : Reason) (p : ℕ) (y : Option Refusal) → or_else (unless good why p) y ≡ None → (good ≡ true) × (y ≡ None)
-opens' true why p y e = (refl, e)
-opens' false why p y e = absurd (no_some e)
-
-pub opens : (os : List Opening) (p : ℕ) {y : Option Refusal} → or_else (unless (ltb (length os) 8) TooDeep p) y ≡ None → (length os < 8) × (y ≡ None)
-opens os p {y} e = let b = opens' (ltb (length os) 8) TooDeep p y e in (ltb-true (length os) 8 b.0, b.1)
+none (Some x) e = let z : ◌≡◌ {A = ℕ} 0 1 = cc in absurd (omega arith)
 
 -- how many brackets these instructions close that they do not open
 abbrev pub closers : List Instruction → ℕ

@@ -41,12 +41,12 @@ pub fn value(what: Value, registers: &[u32; 32]) -> u32
 {
     match what {
         Value::Const { word } => word,
-        Value::Move { from } => registers[from as usize],
+        Value::Move { from } => registers[usize::from(from)],
         Value::Binary { op, left, right } => binary(
             op,
-            registers[left as usize],
-            registers[right as usize],
+            registers[usize::from(left)],
+            registers[usize::from(right)],
         ),
-        Value::Shift { op, from, by } => shift(op, registers[from as usize], by),
+        Value::Shift { op, from, by } => shift(op, registers[usize::from(from)], by),
     }
 }

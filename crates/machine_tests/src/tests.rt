@@ -45,6 +45,7 @@ impl From<Outcome> for Ran {
     }
 }
 
+// The tests of images have these two functions again: tests of one crate cannot call those of another.
 fn image_of(heap: Global, case: &Case) -> Result<Vec<u8>, AllocError> {
     let mut image = vec![in heap; 0u8; 64]?;
     let count = (case.body.len() & 0xff) as u8;

@@ -8,7 +8,7 @@ use program::refusal::Refusal;
 use std::fmt;
 
 // Three of these are operations of `piles` too. Those drop their answers, so that neither enum could hold
-// the other and be plainer.
+// the other and be plainer. A table and an offset are two, as in a memory's own calls.
 #[derive(Clone, Copy)]
 pub enum Call {
     Read {

@@ -1,8 +1,9 @@
 -- Accesses that are accepted, and those that are not.
-use Rattle.std.proofs.Common.{◌≡◌, ℕ, ◌+◌, ◌≤◌, Bool, true, false, ltb, leb, length, get_or, set, None, Ok, refl, ap, arith}
+use Rattle.std.proofs.Common.{◌≡◌, ℕ, ◌+◌, ◌≤◌, Bool, true, ltb, leb, length, get_or, set, None, Ok, ap}
 use Rattle.std.proofs.lemmas.Bool.{lt-ltb, le-leb, ltb-true, leb-true, and_from, and_parts}
 use Rattle.program.specs.declared.refusal.Reason.TheVariants.{OutsideTable, NoRoomForMarks}
 use Rattle.program.specs.Refusals.{unless, or_else}
+use Rattle.program.proofs.Refusals.{passed, passed_first}
 use Rattle.memory.specs.declared.Access.{Access}
 use Rattle.memory.specs.declared.Access.TheVariants.{Read, Write}
 use Rattle.memory.specs.Description.{Description, free, marked}
@@ -15,9 +16,7 @@ module _ (size base len off cost room : ℕ) where
   denial_none e h = let f = le-leb cost room h in rw (e, f)
 
 tests_pass : (x y : Bool) → or_else (unless x OutsideTable 0) (unless y NoRoomForMarks 0) ≡ None → (x ≡ true) × (y ≡ true)
-tests_pass true true e = (refl, refl)
-tests_pass true false e = absurd (let z : ◌≡◌ {A = ℕ} 0 1 = cc in omega arith)
-tests_pass false y e = absurd (let z : ◌≡◌ {A = ℕ} 0 1 = cc in omega arith)
+tests_pass x y e = let b = passed_first x OutsideTable 0 _ e in (b.0, passed y NoRoomForMarks 0 b.1)
 
 -- what is known of an access that is not denied
 pub accepted_within : (d : Description) (k : Access) (base len off : ℕ) → denied d k base len off ≡ None → Within d base len off × (d.rules.cost k len ≤ free d)

@@ -24,6 +24,7 @@ pub enum Access {
     Write,
 }
 
+// A table and an offset stay two: a scan goes through many offsets of one table, and its length alone is asked too.
 /// Cells in tables: an access goes to the offset `off` of a table.
 pub trait Memory {
     /// The memory as its user sees it.

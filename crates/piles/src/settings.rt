@@ -6,6 +6,7 @@ ghost use Rattle.piles.specs.Operations.{leaves};
 use memory::Memory;
 use memory::window::Window;
 
+// A table and an offset are two, as in a memory's own calls.
 /// An operation that may change a memory.
 #[derive(Clone, Copy)]
 pub enum Operation {

@@ -58,7 +58,7 @@ fn leaving(op: Op, set: u16, masked: bool, tables: &[Table; 8]) -> u16
             table,
         } => {
             let held = has(set, target);
-            let read = has(set, index) || tables[table as usize].secret;
+            let read = has(set, index) || tables[usize::from(table)].secret;
             with(set, target, written(masked, held, read))
         }
         Op::Store { .. } => set,

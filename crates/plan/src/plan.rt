@@ -63,7 +63,7 @@ pub fn plan(program: &Program, list: &mut [u16]) -> Result<(), Refusal>
     if header.kind != Kind::Source {
         return Err(Reason::NotASource.into());
     }
-    let needed = header.count as usize + 1;
+    let needed = usize::from(header.count) + 1;
     if list.len() < needed {
         return Err(Reason::NoRoomForResult.at(needed));
     }

@@ -1,8 +1,8 @@
 -- Tests over the numbers from 0: how a loop comes by them, and what they tell.
-use Rattle.std.proofs.Common.{◌≡◌, ℕ, zero, suc, ◌+◌, ◌<◌, ◌≤◌, Bool, true, false, ◌&&◌, Some, None, Option, refl, ap, ◌∙◌, ⊎_elim, arith}
+use Rattle.std.proofs.Common.{◌≡◌, ℕ, zero, suc, ◌+◌, ◌<◌, ◌≤◌, Bool, true, false, ◌&&◌, Some, None, refl, ap, ◌∙◌, ⊎_elim, arith}
 use Rattle.std.proofs.lemmas.Bool.{cases_lt, and_from, and_parts}
 use Rattle.program.specs.declared.refusal.Reason.{Reason}
-use Rattle.program.specs.declared.refusal.Refusal.{Refusal}
+use Rattle.program.proofs.Refusals.{passed_first}
 use Rattle.program.specs.Refusals.{refusal, unless, or_else}
 use Rattle.program.specs.Firsts.{all_below, first_failing}
 
@@ -51,14 +51,10 @@ module _ (why : Reason) (good : ℕ → Bool) where
   failing_none p (suc n) all =
       ap (λ b. or_else (unless b why p) (first_failing why good (suc p) n)) (all p (omega arith) (omega arith)) ∙ failing_none (suc p) n (λ k l h. all k (omega arith) (omega arith))
 
-  first_passes : (b : Bool) (p : ℕ) (later : Option Refusal) → or_else (unless b why p) later ≡ None → (b ≡ true) × (later ≡ None)
-  first_passes true p later e = (refl, e)
-  first_passes false p later e = let z : ◌≡◌ {A = ℕ} 0 1 = cc in absurd (omega arith)
-
   pub none_failing : (p n : ℕ) → first_failing why good p n ≡ None → (k : ℕ) → p ≤ k → k < p + n → good k ≡ true
   none_failing p zero e k lo hi = absurd (omega arith)
   none_failing p (suc n) e k lo hi =
-      let both = first_passes (good p) p (first_failing why good (suc p) n) e in
+      let both = passed_first (good p) why p (first_failing why good (suc p) n) e in
       ⊎_elim
       (λ (lt : p < k). none_failing (suc p) n both.1 k (omega arith) (omega arith))
       (λ (ge : k ≤ p). let q : k ≡ p = omega arith in ap good q ∙ both.0)

@@ -48,7 +48,7 @@ impl Program {
     pub fn code(&self) -> &[Instruction]
         ensures { result.now ≡ take self.now.header.count self.now.list.items }
     {
-        &self.list[..self.header.count as usize]
+        &self.list[..usize::from(self.header.count)]
     }
 
     /// Gives the list back, with the instructions in front.

@@ -57,6 +57,7 @@ impl Reason {
     }
 }
 
+// The 0 is what is reported: with an Option in its place each reader would put it back.
 /// A refusal: a reason, and a place that is 0 where the reason has none.
 #[derive(Clone, Copy, PartialEq, Eq, Debug)]
 pub struct Refusal {

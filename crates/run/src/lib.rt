@@ -73,7 +73,7 @@ fn go<M: Memory>(
     ensures { Ended program.now.header.tables (code_of program.now) (finish program.now.header.tables (code_of program.now) entry.now (M.model memory.old).cells) (M.model memory.old) (M.model memory.new) visits.old visits.new result }
 {
     let layout = Layout::new(program);
-    let count = program.header().count as usize;
+    let count = usize::from(program.header().count);
     let before = memory.marks();
     let mut state = State {
         registers: started(entry),

@@ -10,6 +10,7 @@ use memory::window::Window;
 // What is asked of both is a fact about the memory as it is at the call, which no window can carry.
 
 /// The word at an offset of a window.
+#[tactic(auto, using(memory::proofs::Accepted::read_answers, memory::proofs::Accepted::read_leaves))]
 pub fn fetch<M: Memory>(memory: &mut M, window: Window, off: usize) -> u32
     requires within { Within (M.model memory.old) window.first window.length off }
     requires room { (M.model memory.old).rules.cost Read window.length ≤ free (M.model memory.old) }
@@ -20,6 +21,7 @@ pub fn fetch<M: Memory>(memory: &mut M, window: Window, off: usize) -> u32
 }
 
 /// Sets the word at an offset of a window.
+#[tactic(auto, using(memory::proofs::Accepted::write_answers, memory::proofs::Accepted::write_leaves))]
 pub fn keep<M: Memory>(memory: &mut M, window: Window, off: usize, word: u32)
     requires within { Within (M.model memory.old) window.first window.length off }
     requires room { (M.model memory.old).rules.cost Write window.length ≤ free (M.model memory.old) }

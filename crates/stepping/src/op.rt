@@ -29,7 +29,7 @@ fn load<M: Memory>(
     if off >= window.length {
         return Err(OutsideTable);
     }
-    registers[target as usize] = fetch(memory, window, off);
+    registers[usize::from(target)] = fetch(memory, window, off);
     Ok(())
 }
 
@@ -63,7 +63,7 @@ pub fn perform<M: Memory>(
 {
     match op {
         Op::Set { target, value } => {
-            registers[target as usize] = words::value(value, registers);
+            registers[usize::from(target)] = words::value(value, registers);
             Ok(())
         }
         Op::Pick {
@@ -71,12 +71,12 @@ pub fn perform<M: Memory>(
             condition,
             from,
         } => {
-            let source = if registers[condition as usize] == 0 {
+            let source = if registers[usize::from(condition)] == 0 {
                 target
             } else {
                 from
             };
-            registers[target as usize] = registers[source as usize];
+            registers[usize::from(target)] = registers[usize::from(source)];
             Ok(())
         }
         Op::Load {
@@ -84,12 +84,12 @@ pub fn perform<M: Memory>(
             index,
             table,
         } => {
-            let off = registers[index as usize] as usize;
+            let off = registers[usize::from(index)] as usize;
             load(target, off, of_table(windows, table), registers, memory)
         }
         Op::Store { from, index, table } => {
-            let at = registers[index as usize] as usize;
-            let word = registers[from as usize];
+            let at = registers[usize::from(index)] as usize;
+            let word = registers[usize::from(from)];
             store(word, at, of_table(windows, table), memory)
         }
     }

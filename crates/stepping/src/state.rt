@@ -34,7 +34,7 @@ impl State {
         ensures { Turned layout.now.windows layout.now.jumps place (held self.old.repeats.open) self.old.registers (M.model memory.old) result (held self.new.repeats.open) self.new.registers (M.model memory.new) instruction }
     {
         let next = place + 1;
-        let target = layout.jumps[place] as usize;
+        let target = usize::from(layout.jumps[place]);
         match instruction {
             Instruction::Do { op } => {
                 match perform(op, &layout.windows, &mut self.registers, memory) {
@@ -43,7 +43,7 @@ impl State {
                 }
             }
             Instruction::If { condition } => {
-                if self.registers[condition as usize] == 0 {
+                if self.registers[usize::from(condition)] == 0 {
                     Move::new(target, Choice::Past)
                 } else {
                     Move::new(next, Choice::Inward)
@@ -52,7 +52,7 @@ impl State {
             Instruction::Else => Move::new(target, Choice::Onward),
             Instruction::End => Move::new(next, Choice::Onward),
             Instruction::Repeat { count, most } => {
-                let rounds = self.registers[count as usize].min(most);
+                let rounds = self.registers[usize::from(count)].min(most);
                 self.repeats.begin(rounds, next, target)
             }
             Instruction::Again => self.repeats.back(next),

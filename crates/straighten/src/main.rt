@@ -41,10 +41,7 @@ fn refuse(rt: &HostRuntime, refusal: Refusal) -> anyhow::Result<()> {
 // A converted program has no plan, and so no labels to show.
 fn show_listing(rt: &HostRuntime, program: &Program) -> anyhow::Result<()> {
     let mut list = vec![in rt.alloc(); 0u16; program.code().len().saturating_add(1)]?;
-    let labels = match plan(program, &mut list) {
-        Ok(_) => Some(list.as_slice()),
-        Err(_) => None,
-    };
+    let labels = plan(program, &mut list).is_ok().then_some(list.as_slice());
     let listing = Listing { program, labels };
     rt.print(listing.to_string(rt.alloc())?)?;
     Ok(())
@@ -124,7 +121,7 @@ fn show_marks(rt: &HostRuntime, memory: &Leaf<Flat>) -> anyhow::Result<()> {
 
 fn main(rt: HostRuntime) -> anyhow::Result<()> {
     let image = input(&rt)?;
-    let list = vec![in rt.alloc(); Instruction::Again; Kind::Converted.longest() as usize]?;
+    let list = vec![in rt.alloc(); Instruction::Again; usize::from(Kind::Converted.longest())]?;
     let program = match reader::read(&image, list) {
         Ok(program) => program,
         Err(back) => return refuse(&rt, back.refusal),

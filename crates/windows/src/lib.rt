@@ -16,7 +16,7 @@ pub fn lay(program: &Program) -> [Window; 8]
     let header = program.header();
     std::array::from_fn(|t| Window {
         first: header.first_cell(t) as usize,
-        length: header.tables[t].length as usize,
+        length: usize::from(header.tables[t].length),
     })
 }
 
@@ -25,7 +25,7 @@ pub fn of_table(windows: &[Window; 8], table: u8) -> Window
     requires { table < 8 }
     ensures { result ≡ slice_index_or windows.now table no_window }
 {
-    windows[table as usize]
+    windows[usize::from(table)]
 }
 
 /// How many cells the tables have together.

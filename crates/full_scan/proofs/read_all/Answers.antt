@@ -1,3 +1,4 @@
+-- Each goal has a context of its own, so each names the lemma of its turn again.
 use Rattle.std.proofs.Common.{◌≡◌, ◌+◌, get_or, is_ok, ap, ◌∙◌}
 use Rattle.full_scan.proofs.Rewrites.{found_next}
 use Rattle.full_scan.proofs.Turns.{read_turn, ok_same}

@@ -1,3 +1,4 @@
+-- Each goal has a context of its own, so each names the lemma of its turn again.
 use Rattle.std.proofs.Common.{cond, eqb, is_ok, ap, ◌∙◌}
 use Rattle.full_scan.proofs.Turns.{write_turn_read, write_turn, ok_same}
 use Rattle.full_scan.proofs.write_all.Goals as goal
