@@ -14,8 +14,8 @@ use Rattle.plan.specs.Planned.{plan_of}
 use Rattle.machine.specs.Programs.{code_of}
 use Rattle.counting.specs.Counting.{most_steps}
 use Rattle.groups.specs.Groups.{lengths}
-use Rattle.converter.specs.Conversion.{convert}
-use Rattle.converter.specs.Refusing.{hidden_by, first_wrong}
+use Rattle.conversion.specs.Conversion.{convert}
+use Rattle.conversion.specs.Refusing.{hidden_by, first_wrong}
 
 -- what the code of a source becomes, by its smallest labels
 abbrev pub result_of : Header → List Instruction → List Instruction

@@ -5,7 +5,7 @@ use Rattle.machine.specs.Programs.{code_of}
 use Rattle.machine.proofs.Programs.{code_long}
 use Rattle.counting.specs.Counting.{Countable}
 use Rattle.groups.specs.Groups.{lengths}
-use Rattle.converter.specs.Conversion.{convert}
+use Rattle.conversion.specs.Conversion.{convert}
 use Rattle.converter.proofs.Results.{source_there, source_short, source_passable, plan_long, plan_there, result_countable}
 use Rattle.converter.proofs.attempt.Goals as goal
 

@@ -6,7 +6,7 @@ use Rattle.program.specs.declared.header.Header.{Header}
 use Rattle.program.specs.Blocks.{Block, done, one, if_then, if_else, loop, flat, depth, fin}
 use Rattle.machine.specs.Fits.{FitOp}
 use Rattle.groups.specs.Groups.{lengths, mask_at, op_group, if_group, else_group}
-use Rattle.trees.specs.Sources.{IsSource, result_by}
+use Rattle.conversion.specs.Sources.{IsSource, result_by}
 
 -- each if of a block that begins at p is noted as secret exactly where S has its register
 abbrev pub Noted : (ℕ → ℕ → Bool) → Block Bool → ℕ → Type 0

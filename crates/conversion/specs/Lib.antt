@@ -1,0 +1,4 @@
+pub mod Conversion
+pub mod Refusing
+pub mod Sources
+pub mod Trees
