@@ -1,7 +1,7 @@
 use Rattle.std.proofs.Common.{◌≡◌, ◌+◌, ◌≤◌, [], length, sym, ap, ◌∙◌, subst, arith}
 use Rattle.labels.specs.Sets.{sets}
 use Rattle.plan.specs.Planned.{Passable}
-use Rattle.machine.specs.Programs.{code_of}
+use Rattle.program.specs.Programs.{code_of}
 use Rattle.machine.proofs.Programs.{code_long}
 use Rattle.counting.specs.Counting.{Countable}
 use Rattle.groups.specs.Groups.{lengths}
