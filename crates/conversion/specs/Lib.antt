@@ -2,3 +2,4 @@ pub mod Conversion
 pub mod Refusing
 pub mod Sources
 pub mod Trees
+pub mod Labelling
