@@ -1,0 +1,4 @@
+pub mod Notes
+pub mod Bounds
+pub mod Converted
+pub mod Trees
