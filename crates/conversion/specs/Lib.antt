@@ -3,3 +3,4 @@ pub mod Refusing
 pub mod Sources
 pub mod Trees
 pub mod Labelling
+pub mod OneWay
