@@ -14,7 +14,7 @@ use Rattle.labels.specs.Passes.{opens}
 use Rattle.masks.specs.Counts.{secrets_of}
 use Rattle.masks.proofs.Counting.{secrets_le}
 use Rattle.groups.specs.Groups.{straight, mask_at, op_group, if_group, else_group}
-use Rattle.converter.specs.Conversion.{secret_if, secret_else, becomes, convert}
+use Rattle.conversion.specs.Conversion.{secret_if, secret_else, becomes, convert}
 use Rattle.converter.proofs.Shapes.{Fit}
 use Rattle.converter.proofs.Paired.{shapes}
 use Rattle.converter.proofs.Fitting.{mask_fits, AllOps, op_group_lem, if_group_lem, else_group_lem}

@@ -9,7 +9,7 @@ use Rattle.program.specs.declared.opening.Opening.TheVariants.{Then, Otherwise, 
 use Rattle.program.specs.declared.opening.Marked.{Marked}
 use Rattle.masks.specs.Counts.{secrets_of}
 use Rattle.groups.specs.Groups.{straight, mask_at, op_group, if_group, else_group}
-use Rattle.converter.specs.Conversion.{secret_if, convert}
+use Rattle.conversion.specs.Conversion.{secret_if, convert}
 use Rattle.converter.proofs.Shapes.{Shape, Fit, shape_of}
 
 abbrev pub shapes : List (Marked Bool) → List Shape

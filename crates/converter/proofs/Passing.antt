@@ -8,8 +8,8 @@ use Rattle.program.specs.declared.refusal.Refusal.{Refusal}
 use Rattle.labels.specs.Kinds.{secrecy}
 use Rattle.labels.specs.Rules.{mask_of}
 use Rattle.labels.specs.Passes.{opens}
-use Rattle.converter.specs.Conversion.{becomes, convert}
-use Rattle.converter.specs.Refusing.{wrong, or_later, first_wrong}
+use Rattle.conversion.specs.Conversion.{becomes, convert}
+use Rattle.conversion.specs.Refusing.{wrong, or_later, first_wrong}
 
 module _ (long : ℕ → ℕ) (S : ℕ → ℕ → Bool) (code : List Instruction) where
   pub convert_more : (ks js : List (Marked Bool)) (p : ℕ) (i : Instruction) (w w' all : List Instruction) → p < length code → i ≡ get_or code p Again → w' ≡ w ++ becomes long (S p) ks p i → js ≡ opens secrecy (S p) ks p i

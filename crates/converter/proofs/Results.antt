@@ -22,7 +22,7 @@ use Rattle.labels.specs.Sets.{sets, secret_tables}
 use Rattle.labels.proofs.Reckoning.{reckoned}
 use Rattle.plan.specs.Planned.{plan_of, Passable}
 use Rattle.plan.proofs.Steps.{passable}
-use Rattle.machine.specs.Programs.{code_of}
+use Rattle.program.specs.Programs.{code_of}
 use Rattle.machine.proofs.Fitting.{fits}
 use Rattle.machine.proofs.Programs.{code_long, code_pairs}
 use Rattle.counting.specs.Counting.{Countable}

@@ -7,7 +7,7 @@ use Rattle.instructions.specs.declared.Instruction.TheVariants.{Do, If, Else, En
 use Rattle.program.specs.declared.opening.Marked.{Marked}
 use Rattle.masks.specs.Counts.{secrets_of}
 use Rattle.groups.specs.Groups.{straight, mask_at, op_group}
-use Rattle.converter.specs.Conversion.{secret_if, secret_else, becomes}
+use Rattle.conversion.specs.Conversion.{secret_if, secret_else, becomes}
 
 module _ (long : ℕ → ℕ) (p : ℕ) where
   op_short : (mask : Option ℕ) (op : Op) → length (straight (op_group long mask p op)) ≤ 15

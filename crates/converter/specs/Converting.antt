@@ -11,11 +11,11 @@ use Rattle.program.specs.Headers.{is_source}
 use Rattle.program.specs.Refusals.{unless, or_else}
 use Rattle.labels.specs.Sets.{sets, secret_tables}
 use Rattle.plan.specs.Planned.{plan_of}
-use Rattle.machine.specs.Programs.{code_of}
+use Rattle.program.specs.Programs.{code_of}
 use Rattle.counting.specs.Counting.{most_steps}
 use Rattle.groups.specs.Groups.{lengths}
-use Rattle.converter.specs.Conversion.{convert}
-use Rattle.converter.specs.Refusing.{hidden_by, first_wrong}
+use Rattle.conversion.specs.Conversion.{convert}
+use Rattle.conversion.specs.Refusing.{hidden_by, first_wrong}
 
 -- what the code of a source becomes, by its smallest labels
 abbrev pub result_of : Header → List Instruction → List Instruction

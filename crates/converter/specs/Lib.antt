@@ -1,4 +1,2 @@
-pub mod Conversion
-pub mod Refusing
 pub mod Converting
 pub mod Theorems

@@ -11,7 +11,7 @@ use Rattle.labels.specs.Kinds.{secrecy}
 use Rattle.labels.specs.Passes.{opens}
 use Rattle.labels.specs.Sets.{sets}
 use Rattle.plan.specs.Planned.{plan_of}
-use Rattle.machine.specs.Programs.{code_of}
+use Rattle.program.specs.Programs.{code_of}
 
 -- the brackets among instructions
 abbrev pub brackets : List Instruction → List Instruction

@@ -3,7 +3,7 @@ ghost use Rattle.std.specs.Prelude.{◌≡◌, ℕ, Bool, true, ◌&&◌, not, [
 ghost use Rattle.program.specs.Bounds.{bound_op, bound};
 ghost use Rattle.program.specs.Refusals.{refused_by};
 ghost use Rattle.labels.specs.Sets.{bits, sets, secret_tables};
-ghost use Rattle.converter.specs.Refusing.{hidden_by, wrong_op, wrong, first_wrong};
+ghost use Rattle.conversion.specs.Refusing.{hidden_by, wrong_op, wrong, first_wrong};
 
 use crate::labelled::Labelled;
 use instructions::{Instruction, Op, Register};

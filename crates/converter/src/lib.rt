@@ -3,7 +3,7 @@
 
 ghost use Rattle.std.specs.Prelude.{◌≡◌, ℕ, ◌≤◌, ◌++◌, length, drop, IfOk};
 ghost use Rattle.program.specs.Refusals.{refused_by};
-ghost use Rattle.machine.specs.Programs.{code_of};
+ghost use Rattle.program.specs.Programs.{code_of};
 ghost use Rattle.counting.specs.Counting.{Countable};
 ghost use Rattle.converter.specs.Converting.{result_of, size_refusal, convert_refusal, Converts};
 ghost use Rattle.converter.specs.Theorems.{Straightens};

@@ -5,7 +5,7 @@ ghost use Rattle.program.specs.Bounds.{bound};
 ghost use Rattle.labels.specs.Sets.{sets};
 ghost use Rattle.masks.specs.Counts.{secrets_of};
 ghost use Rattle.groups.specs.Groups.{lengths};
-ghost use Rattle.converter.specs.Conversion.{secret_if, becomes, convert};
+ghost use Rattle.conversion.specs.Conversion.{secret_if, becomes, convert};
 
 use crate::labelled::Labelled;
 use groups::groups::{Site, else_group, if_group, mask_at, op_group};

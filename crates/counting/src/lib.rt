@@ -3,7 +3,7 @@
 
 ghost use Rattle.std.specs.Prelude.{◌≡◌, ◌≤◌, map, length};
 ghost use Rattle.machine.specs.Most.{each_step};
-ghost use Rattle.machine.specs.Programs.{code_of};
+ghost use Rattle.program.specs.Programs.{code_of};
 ghost use Rattle.execution.specs.Runs.{OverBy, CountsBy};
 ghost use Rattle.counting.specs.Counting.{Sum, most_steps, mark_price, most_marks, costs, Countable};
 

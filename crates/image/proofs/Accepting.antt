@@ -9,7 +9,7 @@ use Rattle.program.specs.Sound.{SoundHeader, SoundList}
 use Rattle.header.specs.Layout.{header_at}
 use Rattle.header.proofs.Rewritten.{Bytes, header_sound}
 use Rattle.brackets.proofs.Nesting.{paired_is_nested}
-use Rattle.image.specs.Images.{instruction_at, instructions, code_of, image_refusal, image_of}
+use Rattle.image.specs.Images.{instruction_at, instructions, code_at, image_refusal, image_of}
 use Rattle.image.proofs.Sounding.{SoundCode, as_list}
 use Rattle.image.proofs.Answering.{header_good_lem, code_sound, image_rewritten, brackets_passed}
 
@@ -18,7 +18,7 @@ module _ (bs : List ℕ) (h : Header) (is : h ≡ header_at bs) (none : None ≡
   sound_header small = subst SoundHeader (sym is) (header_sound bs small (header_good_lem bs (sym none)))
 
   module _ (before list : List Instruction) (filled : list ≡ instructions (drop 64 bs) h.count ++ drop h.count before) where
-    pub code_is : take h.count list ≡ code_of bs
+    pub code_is : take h.count list ≡ code_at bs
     code_is =
         ap (take h.count) filled
         ∙ take_at (instructions (drop 64 bs) h.count) (drop h.count before) h.count (length-map-range_with_len (instruction_at (drop 64 bs)) 0 h.count)
@@ -30,13 +30,13 @@ module _ (bs : List ℕ) (h : Header) (is : h ≡ header_at bs) (none : None ≡
         omega (arith, ap length filled, length-append (instructions (drop 64 bs) h.count) (drop h.count before))
 
     pub sound_list : h.count ≤ length before → SoundList h list
-    sound_list le = as_list h list (room_after le) (subst (SoundCode h) (sym code_is) (subst (λ (x : Header). SoundCode x (code_of bs)) (sym is) (code_sound bs (sym none))))
+    sound_list le = as_list h list (room_after le) (subst (SoundCode h) (sym code_is) (subst (λ (x : Header). SoundCode x (code_at bs)) (sym is) (code_sound bs (sym none))))
 
     pub rewritten : Bytes bs → length bs ≡ 64 + 8 * h.count → image_of h (take h.count list) ≡ bs
     rewritten small size = (λ t. image_of (is t) (code_is t)) ∙ image_rewritten bs small (size ∙ ap (λ x. 64 + 8 * x.count) is) (sym none)
 
     pub nested : Nested (take h.count list)
-    nested = subst Nested (sym code_is) ((paired_is_nested (code_of bs)).0 (brackets_passed bs (sym none)))
+    nested = subst Nested (sym code_is) ((paired_is_nested (code_at bs)).0 (brackets_passed bs (sym none)))
 
-    pub list_is : list ≡ code_of bs ++ drop (header_at bs).count before
+    pub list_is : list ≡ code_at bs ++ drop (header_at bs).count before
     list_is = filled ∙ ap (λ x. instructions (drop 64 bs) x.count ++ drop x.count before) is

@@ -4,7 +4,7 @@ use Rattle.std.proofs.lemmas.List.FromFn.{length-map-range_with_len, get_or-map-
 use Rattle.instructions.specs.declared.Instruction.TheVariants.{Again}
 use Rattle.program.specs.declared.header.Header.{Header}
 use Rattle.program.specs.declared.refusal.Reason.{Reason}
-use Rattle.program.specs.declared.refusal.Reason.TheVariants.{NoHeader, BadHeader, BadLength, BadField, BadBracket, TooDeep, NoRoomForCode, NotASource, SecretRepeat, SecretIndex, PublicStore, TooManySteps, NoRoomForResult, NoRoomForImage, MemoryTooSmall, NoFreeMarks, NoRoomForVisits, OutsideTable, NoRoomForMarks}
+use Rattle.program.specs.declared.refusal.Reason.TheVariants.{NoHeader, BadHeader, BadLength, BadField, BadBracket, TooDeep, NoRoomForCode, NotASource, SecretRepeat, SecretIndex, PublicStore, TooManySteps, NoRoomForResult, NoRoomForImage, AlreadySeated, MemoryTooSmall, NoneSeated, NoSuchTable, IndexTooLarge, NoFreeMarks, NoSuchRegister, SecretTable, NoRoomForVisits, NoOutcome, OutsideTable, NoRoomForMarks}
 use Rattle.program.specs.declared.refusal.Refusal.{Refusal}
 use Rattle.program.specs.Refusals.{unless, or_else}
 use Rattle.program.specs.Headers.{registers_of}
@@ -23,7 +23,7 @@ use Rattle.fields.proofs.Trips.{encode_decode, same_bounds}
 use Rattle.header.specs.Layout.{header_at, header_good, header_refusal}
 use Rattle.header.proofs.Rewritten.{Bytes, header_rewritten}
 use Rattle.brackets.proofs.Nesting.{paired_is_nested}
-use Rattle.image.specs.Images.{limits_of, instruction_at, instructions, code_of, fields_good, fields_refusal, image_refusal, read_refusal, image_of}
+use Rattle.image.specs.Images.{limits_of, instruction_at, instructions, code_at, fields_good, fields_refusal, image_refusal, read_refusal, image_of}
 use Rattle.image.proofs.Sounding.{SoundCode}
 use Rattle.image.proofs.Trips.{code_rewritten}
 
@@ -42,10 +42,10 @@ module _ (bs : List ℕ) (none : image_refusal bs ≡ None) where
   header_passed : header_refusal bs ≡ None
   header_passed = (both (header_refusal bs) _ none).0
 
-  rest_passed : or_else (fields_refusal (header_at bs) (drop 64 bs)) (pairing [] 0 (code_of bs)) ≡ None
+  rest_passed : or_else (fields_refusal (header_at bs) (drop 64 bs)) (pairing [] 0 (code_at bs)) ≡ None
   rest_passed = (both (header_refusal bs) _ none).1
 
-  pub brackets_passed : pairing [] 0 (code_of bs) ≡ None
+  pub brackets_passed : pairing [] 0 (code_at bs) ≡ None
   brackets_passed = (both (fields_refusal (header_at bs) (drop 64 bs)) _ rest_passed).1
 
   pub fields_passed : (k : ℕ) → k < (header_at bs).count → admitted (limits_of (header_at bs)) (fields_at (drop 64 bs) k) ≡ true
@@ -58,7 +58,7 @@ module _ (bs : List ℕ) (none : image_refusal bs ≡ None) where
 within_decoded : (l : Limits) (f : Fields) → admitted l f ≡ true → bound l.registers l.tables (decode f) ≡ true
 within_decoded l f e = sym (same_bounds l (decode f)) ∙ ap (admitted l) (encode_decode l f e) ∙ e
 
-pub code_sound : (bs : List ℕ) → image_refusal bs ≡ None → SoundCode (header_at bs) (code_of bs)
+pub code_sound : (bs : List ℕ) → image_refusal bs ≡ None → SoundCode (header_at bs) (code_at bs)
 code_sound bs none =
     let h = header_at bs in
     let body = drop 64 bs in
@@ -71,7 +71,7 @@ code_sound bs none =
     }
 
 -- an image that is not refused is written as the same bytes
-pub image_rewritten : (bs : List ℕ) → Bytes bs → length bs ≡ 64 + 8 * (header_at bs).count → image_refusal bs ≡ None → image_of (header_at bs) (code_of bs) ≡ bs
+pub image_rewritten : (bs : List ℕ) → Bytes bs → length bs ≡ 64 + 8 * (header_at bs).count → image_refusal bs ≡ None → image_of (header_at bs) (code_at bs) ≡ bs
 image_rewritten bs small size none =
     let body : length (drop 64 bs) ≡ 8 * (header_at bs).count = omega (arith, length-drop 64 bs) in
     let small_body : Bytes (drop 64 bs) = λ k. subst (λ (n : ℕ). n < 256) (sym (get_or-drop 64 bs k 0)) (small (64 + k)) in
@@ -96,9 +96,16 @@ of_brackets PublicStore = false
 of_brackets TooManySteps = false
 of_brackets NoRoomForResult = false
 of_brackets NoRoomForImage = false
+of_brackets AlreadySeated = false
 of_brackets MemoryTooSmall = false
+of_brackets NoneSeated = false
+of_brackets NoSuchTable = false
+of_brackets IndexTooLarge = false
 of_brackets NoFreeMarks = false
+of_brackets NoSuchRegister = false
+of_brackets SecretTable = false
 of_brackets NoRoomForVisits = false
+of_brackets NoOutcome = false
 of_brackets OutsideTable = false
 of_brackets NoRoomForMarks = false
 
@@ -119,9 +126,9 @@ other_first : (good : ℕ → Bool) (p n : ℕ) → Other (first_failing BadFiel
 other_first good p zero = tt
 other_first good p (suc n) = other_else (unless (good p) BadField p) _ (other_unless (good p) BadField p refl) (other_first good (suc p) n)
 
-no_brackets : (bs : List ℕ) → pairing [] 0 (code_of bs) ≡ None → Other (image_refusal bs)
+no_brackets : (bs : List ℕ) → pairing [] 0 (code_at bs) ≡ None → Other (image_refusal bs)
 no_brackets bs e =
-    let none : Other (pairing [] 0 (code_of bs)) = subst Other (sym e) tt in
+    let none : Other (pairing [] 0 (code_at bs)) = subst Other (sym e) tt in
     other_else (header_refusal bs) _
     (other_else (unless (leb 64 (length bs)) NoHeader 0) _ (other_unless _ NoHeader 0 refl)
     (other_else (unless (header_good bs) BadHeader 0) _ (other_unless _ BadHeader 0 refl) (other_unless _ BadLength 0 refl)))
@@ -131,9 +138,9 @@ refuted : (b : Bool) → b ≡ false → b ≡ true → ⊥
 refuted b p q = let z : ◌≡◌ {A = ℕ} 0 1 = cc in omega arith
 
 -- instructions whose brackets are refused are not nested blocks written out
-pub not_nested : (bs : List ℕ) (room : ℕ) (r : Refusal) → Some r ≡ read_refusal bs room → (r.reason ≡ BadBracket) ⊎ (r.reason ≡ TooDeep) → Nested (code_of bs) → ⊥
+pub not_nested : (bs : List ℕ) (room : ℕ) (r : Refusal) → Some r ≡ read_refusal bs room → (r.reason ≡ BadBracket) ⊎ (r.reason ≡ TooDeep) → Nested (code_at bs) → ⊥
 not_nested bs room r e why nested =
-    let image : Other (image_refusal bs) = no_brackets bs ((paired_is_nested (code_of bs)).1 nested) in
+    let image : Other (image_refusal bs) = no_brackets bs ((paired_is_nested (code_at bs)).1 nested) in
     let all : Other (read_refusal bs room) = other_else (image_refusal bs) _ image (other_unless _ NoRoomForCode (header_at bs).count refl) in
     let other : Other (Some r) = subst Other (sym e) all in
     ⊎_elim

@@ -21,8 +21,8 @@ use Rattle.header.specs.Layout.{header_at, header_good, header_bytes, header_ref
 use Rattle.header.proofs.Parts.{length_joined, part_more}
 use Rattle.header.proofs.Written.{length_header}
 use Rattle.header.proofs.Reread.{header_reread, header_good_lem, count_at}
-use Rattle.image.specs.Images.{limits_of, instructions, code_of, fields_good, fields_refusal, image_refusal, instruction_bytes, code_bytes, image_of, image_length}
-use Rattle.image.specs.Reading.{code_in}
+use Rattle.image.specs.Images.{limits_of, instructions, code_at, fields_good, fields_refusal, image_refusal, instruction_bytes, code_bytes, image_of, image_length}
+use Rattle.program.specs.Programs.{code_of}
 use Rattle.image.specs.Writing.{write_answer, ReadAs}
 use Rattle.image.proofs.Sounding.{SoundCode, as_code}
 use Rattle.image.proofs.Trips.{length_instruction, bound_word, fields_reread, code_reread}
@@ -46,7 +46,7 @@ module _ (h : Header) (code : List Instruction) (sound_h : SoundHeader h) (sound
   pub header_is : header_at (image_of h code) ≡ h
   header_is = header_reread h (code_bytes code) sound_h
 
-  pub code_is : code_of (image_of h code) ≡ code
+  pub code_is : code_at (image_of h code) ≡ code
   code_is = (λ t. instructions (body_is t) (header_is t).count) ∙ code_reread code h.count sound_c.long words
 
   header_passes : header_refusal (image_of h code) ≡ None
@@ -74,28 +74,28 @@ module _ (h : Header) (code : List Instruction) (sound_h : SoundHeader h) (sound
 header_of : (p : Program) → SoundHeader p.header
 header_of p = record { eight = p.eight; few = p.few; tables = p.tables; cells = p.cells; short = p.short; narrow = p.narrow }
 
-code_of_lem : (p : Program) → SoundCode p.header (code_in p)
-code_of_lem p = as_code p.header (vec_items p.list) (record { room = p.room; bounds = p.bounds; pairs = p.pairs })
+code_fits : (p : Program) → SoundCode p.header (code_of p)
+code_fits p = as_code p.header (vec_items p.list) (record { room = p.room; bounds = p.bounds; pairs = p.pairs })
 
 pub answered : (p : Program) (room : ℕ) → image_length p.header ≤ room → Ok (image_length p.header) ≡ write_answer p room
 answered p room le = sym (cond-false _ _ _ (le-ltb room (image_length p.header) le))
 
 -- the header, and then the code
-pub bytes_are : (p : Program) (code : List Instruction) (e front body : List ℕ) (k : ℕ) → code ≡ code_in p → front ≡ header_bytes p.header → body ≡ code_bytes code → k ≡ 8 * p.header.count → put_mid 64 k (front ++ drop 64 e) body ≡ image_of p.header (code_in p) ++ drop (image_length p.header) e
+pub bytes_are : (p : Program) (code : List Instruction) (e front body : List ℕ) (k : ℕ) → code ≡ code_of p → front ≡ header_bytes p.header → body ≡ code_bytes code → k ≡ 8 * p.header.count → put_mid 64 k (front ++ drop 64 e) body ≡ image_of p.header (code_of p) ++ drop (image_length p.header) e
 bytes_are p code e front body k is first then size =
     let body_is = then ∙ ap code_bytes is in
     (λ t. put_mid 64 (size t) (first t ++ drop 64 e) (body_is t))
-    ∙ part_more (header_bytes p.header) e (code_bytes (code_in p)) 64 (8 * p.header.count) (length_header p.header p.eight)
+    ∙ part_more (header_bytes p.header) e (code_bytes (code_of p)) 64 (8 * p.header.count) (length_header p.header p.eight)
 
 -- the bytes written are read as the program
-pub reread : (p : Program) (n : ℕ) (e after : List ℕ) → n ≡ image_length p.header → after ≡ image_of p.header (code_in p) ++ drop (image_length p.header) e → ReadAs (take n after) p
+pub reread : (p : Program) (n : ℕ) (e after : List ℕ) → n ≡ image_length p.header → after ≡ image_of p.header (code_of p) ++ drop (image_length p.header) e → ReadAs (take n after) p
 reread p n e after long is =
     let h = p.header in
-    let front : take n after ≡ image_of h (code_in p) =
-    (λ t. take (long t) (is t)) ∙ take_at (image_of h (code_in p)) (drop (image_length h) e) (image_length h) (length_image h (code_in p) (header_of p) (code_of_lem p)) in
+    let front : take n after ≡ image_of h (code_of p) =
+    (λ t. take (long t) (is t)) ∙ take_at (image_of h (code_of p)) (drop (image_length h) e) (image_length h) (length_image h (code_of p) (header_of p) (code_fits p)) in
     subst (λ (bs : List ℕ). ReadAs bs p) (sym front)
     (record {
-      accepted = image_passes h (code_in p) (header_of p) (code_of_lem p);
-      header = header_is h (code_in p) (header_of p) (code_of_lem p);
-      code = code_is h (code_in p) (header_of p) (code_of_lem p);
+      accepted = image_passes h (code_of p) (header_of p) (code_fits p);
+      header = header_is h (code_of p) (header_of p) (code_fits p);
+      code = code_is h (code_of p) (header_of p) (code_fits p);
     })

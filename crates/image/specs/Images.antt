@@ -31,8 +31,8 @@ abbrev pub instructions : List ℕ → ℕ → List Instruction
 instructions body n = map (instruction_at body) (range_with_len 0 n)
 
 -- the instructions of an image
-abbrev pub code_of : List ℕ → List Instruction
-code_of bs = instructions (drop 64 bs) (header_at bs).count
+abbrev pub code_at : List ℕ → List Instruction
+code_at bs = instructions (drop 64 bs) (header_at bs).count
 
 abbrev pub fields_good : Header → List ℕ → ℕ → Bool
 fields_good h body p = admitted (limits_of h) (fields_at body p)
@@ -43,7 +43,7 @@ fields_refusal h body = first_failing BadField (fields_good h body) 0 h.count
 
 -- what is refused of an image, whatever the list: the header, then the fields, then the brackets
 abbrev pub image_refusal : List ℕ → Option Refusal
-image_refusal bs = or_else (header_refusal bs) (or_else (fields_refusal (header_at bs) (drop 64 bs)) (pairing [] 0 (code_of bs)))
+image_refusal bs = or_else (header_refusal bs) (or_else (fields_refusal (header_at bs) (drop 64 bs)) (pairing [] 0 (code_at bs)))
 
 -- what reading refuses, into an instruction list of that length
 abbrev pub read_refusal : List ℕ → ℕ → Option Refusal

@@ -3,7 +3,7 @@
 
 ghost use Rattle.std.specs.Prelude.{◌≡◌, ◌<◌};
 ghost use Rattle.stack.specs.Held.{held};
-ghost use Rattle.machine.specs.Programs.{code_of};
+ghost use Rattle.program.specs.Programs.{code_of};
 ghost use Rattle.jumps.specs.Jumps.{Noted, Resolved};
 
 use instructions::Instruction;

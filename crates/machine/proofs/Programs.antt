@@ -5,7 +5,7 @@ use Rattle.program.specs.declared.header.Kind.TheVariants.{Source, Converted}
 use Rattle.program.specs.declared.program.Program.{Program}
 use Rattle.program.specs.Headers.{longest}
 use Rattle.program.specs.Pairing.{pairing}
-use Rattle.machine.specs.Programs.{code_of}
+use Rattle.program.specs.Programs.{code_of}
 use Rattle.machine.proofs.Around.{none}
 
 longest_short : (k : Kind) → longest k ≤ 3000

@@ -5,4 +5,3 @@ pub mod Machine
 pub mod Nested
 pub mod Most
 pub mod Fits
-pub mod Programs

@@ -1,7 +1,7 @@
 // The instructions of a program, place by place.
 ghost use Rattle.std.specs.Prelude.{◌≡◌, ◌+◌, ◌<◌, ◌∷◌, length, drop};
 ghost use Rattle.machine.specs.Fits.{Fit};
-ghost use Rattle.machine.specs.Programs.{code_of};
+ghost use Rattle.program.specs.Programs.{code_of};
 
 use instructions::Instruction;
 use program::program::Program;

@@ -7,3 +7,4 @@ pub mod Sound
 pub mod Blocks
 pub mod Firsts
 pub mod Wording
+pub mod Programs

@@ -1,7 +1,7 @@
 -- The number of each reason, and refusals.
 use Rattle.std.specs.Prelude.{ℕ, Bool, cond, Some, None, Ok, Err, Option, Result}
 use Rattle.program.specs.declared.refusal.Reason.{Reason}
-use Rattle.program.specs.declared.refusal.Reason.TheVariants.{NoHeader, BadHeader, BadLength, BadField, BadBracket, TooDeep, NoRoomForCode, NotASource, SecretRepeat, SecretIndex, PublicStore, TooManySteps, NoRoomForResult, NoRoomForImage, MemoryTooSmall, NoFreeMarks, NoRoomForVisits, OutsideTable, NoRoomForMarks}
+use Rattle.program.specs.declared.refusal.Reason.TheVariants.{NoHeader, BadHeader, BadLength, BadField, BadBracket, TooDeep, NoRoomForCode, NotASource, SecretRepeat, SecretIndex, PublicStore, TooManySteps, NoRoomForResult, NoRoomForImage, AlreadySeated, MemoryTooSmall, NoneSeated, NoSuchTable, IndexTooLarge, NoFreeMarks, NoSuchRegister, SecretTable, NoRoomForVisits, NoOutcome, OutsideTable, NoRoomForMarks}
 use Rattle.program.specs.declared.refusal.Refusal.{Refusal}
 
 abbrev pub number_of : Reason → ℕ
@@ -19,9 +19,16 @@ number_of PublicStore = 13
 number_of TooManySteps = 14
 number_of NoRoomForResult = 15
 number_of NoRoomForImage = 16
+number_of AlreadySeated = 20
 number_of MemoryTooSmall = 21
+number_of NoneSeated = 22
+number_of NoSuchTable = 23
+number_of IndexTooLarge = 24
 number_of NoFreeMarks = 25
+number_of NoSuchRegister = 26
+number_of SecretTable = 27
 number_of NoRoomForVisits = 28
+number_of NoOutcome = 29
 number_of OutsideTable = 30
 number_of NoRoomForMarks = 31
 

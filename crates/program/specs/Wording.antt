@@ -1,7 +1,7 @@
 -- Refusals and their reasons as text.
 use Rattle.std.specs.Prelude.{ℕ, List, ◌++◌, codes, decimal}
 use Rattle.program.specs.declared.refusal.Reason.{Reason}
-use Rattle.program.specs.declared.refusal.Reason.TheVariants.{NoHeader, BadHeader, BadLength, BadField, BadBracket, TooDeep, NoRoomForCode, NotASource, SecretRepeat, SecretIndex, PublicStore, TooManySteps, NoRoomForResult, NoRoomForImage, MemoryTooSmall, NoFreeMarks, NoRoomForVisits, OutsideTable, NoRoomForMarks}
+use Rattle.program.specs.declared.refusal.Reason.TheVariants.{NoHeader, BadHeader, BadLength, BadField, BadBracket, TooDeep, NoRoomForCode, NotASource, SecretRepeat, SecretIndex, PublicStore, TooManySteps, NoRoomForResult, NoRoomForImage, AlreadySeated, MemoryTooSmall, NoneSeated, NoSuchTable, IndexTooLarge, NoFreeMarks, NoSuchRegister, SecretTable, NoRoomForVisits, NoOutcome, OutsideTable, NoRoomForMarks}
 use Rattle.program.specs.declared.refusal.Refusal.{Refusal}
 use Rattle.program.specs.Refusals.{number_of}
 
@@ -21,9 +21,16 @@ reason_text PublicStore = codes "a store into a public table is masked, or its v
 reason_text TooManySteps = codes "the most steps are above 1,000,000"
 reason_text NoRoomForResult = codes "the list is shorter than the result"
 reason_text NoRoomForImage = codes "the byte list is shorter than the image"
+reason_text AlreadySeated = codes "a program is seated already"
 reason_text MemoryTooSmall = codes "the memory is smaller than the tables"
+reason_text NoneSeated = codes "no program is seated"
+reason_text NoSuchTable = codes "the program has no such table"
+reason_text IndexTooLarge = codes "the index is not below the length of the table"
 reason_text NoFreeMarks = codes "the most marks are above what is free"
+reason_text NoSuchRegister = codes "no entry register has that number"
+reason_text SecretTable = codes "the table is secret"
 reason_text NoRoomForVisits = codes "the visit list is shorter than the most steps"
+reason_text NoOutcome = codes "no go has been accepted yet"
 reason_text OutsideTable = codes "the access lies outside its table or the memory"
 reason_text NoRoomForMarks = codes "the access shows more marks than the seen list has room for"
 

@@ -33,12 +33,26 @@ pub enum Reason {
     NoRoomForResult = 15,
     /// A byte list shorter than the image.
     NoRoomForImage = 16,
+    /// A program is seated already.
+    AlreadySeated = 20,
     /// A memory smaller than the tables.
     MemoryTooSmall = 21,
+    /// No program is seated.
+    NoneSeated = 22,
+    /// No such table.
+    NoSuchTable = 23,
+    /// An index that is not below the length of its table.
+    IndexTooLarge = 24,
     /// Most marks above what is free.
     NoFreeMarks = 25,
+    /// A register above 15.
+    NoSuchRegister = 26,
+    /// A look into a secret table.
+    SecretTable = 27,
     /// A visit list shorter than the most steps.
     NoRoomForVisits = 28,
+    /// No go has been accepted yet.
+    NoOutcome = 29,
     /// An access outside its table, or to a table that is not within the cells.
     OutsideTable = 30,
     /// An access that shows more marks than the seen list has room for.

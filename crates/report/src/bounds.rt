@@ -2,7 +2,7 @@
 ghost use Rattle.std.specs.Prelude.{◌≡◌, ◌*◌};
 ghost use Rattle.memory.specs.Description.{held};
 ghost use Rattle.full_scan.specs.Scan.{turn_cost};
-ghost use Rattle.machine.specs.Programs.{code_of};
+ghost use Rattle.program.specs.Programs.{code_of};
 ghost use Rattle.counting.specs.Counting.{most_steps, most_marks};
 
 use banked::Banked;

@@ -22,7 +22,7 @@ use Rattle.machine.specs.declared.repeat.OpenRepeat.{OpenRepeat}
 use Rattle.machine.specs.declared.visit.Visit.{Visit}
 use Rattle.machine.specs.declared.visit.Choice.{Choice}
 use Rattle.machine.specs.Fits.{FitOp, Fit}
-use Rattle.machine.specs.Programs.{code_of}
+use Rattle.program.specs.Programs.{code_of}
 use Rattle.machine.proofs.Programs.{code_long}
 use Rattle.machine.specs.States.{Event, visit, reads, writes, State, held}
 use Rattle.machine.specs.Machine.{length_of, loads, stores, Conf, go, stop, state_of, land, step, next, steps, first, start, count}

@@ -3,7 +3,7 @@
 
 ghost use Rattle.std.specs.Prelude.{◌≡◌, length};
 ghost use Rattle.machine.specs.States.{held};
-ghost use Rattle.machine.specs.Programs.{code_of};
+ghost use Rattle.program.specs.Programs.{code_of};
 ghost use Rattle.execution.specs.Runs.{RunsEnd};
 ghost use Rattle.run.specs.Run.{Runnable, Ended, Ran, Tested, ReadNested, finish};
 

@@ -1,5 +1,5 @@
 // Where a program's brackets and tables lie.
-ghost use Rattle.machine.specs.Programs.{code_of};
+ghost use Rattle.program.specs.Programs.{code_of};
 ghost use Rattle.jumps.specs.Jumps.{Resolved};
 ghost use Rattle.windows.specs.Windows.{Laid};
 

@@ -9,7 +9,7 @@ use Rattle.header.specs.Layout.{header_bytes}
 use Rattle.header.proofs.Parts.{length_joined}
 use Rattle.header.proofs.Written.{length_header}
 use Rattle.image.specs.Images.{instruction_bytes, code_bytes, image_of, image_length}
-use Rattle.image.specs.Reading.{code_in}
+use Rattle.program.specs.Programs.{code_of}
 use Rattle.image.specs.Writing.{write_answer, written}
 use Rattle.image.proofs.Trips.{length_instruction}
 use Rattle.trials.specs.declared.answer.Answer.{Answer}
@@ -17,10 +17,10 @@ use Rattle.trials.specs.declared.answer.Answer.TheVariants.{Refused, Written}
 use Rattle.trials.specs.Answers.{bytes_answer, judged}
 use Rattle.trials.proofs.Judging.{judged_written, judged_refused}
 
-module _ (p : Program) (bs : List ℕ) (room : ℕ) (is : image_of p.header (code_in p) ≡ bs) where
+module _ (p : Program) (bs : List ℕ) (room : ℕ) (is : image_of p.header (code_of p) ≡ bs) where
   long : image_length p.header ≡ length bs
   long =
-      omega (arith, ap length is, length-append (header_bytes p.header) (code_bytes (code_in p)), length_header p.header p.eight, length_joined instruction_bytes 8 length_instruction (code_in p), length-take-le p.header.count (vec_items p.list) p.room)
+      omega (arith, ap length is, length-append (header_bytes p.header) (code_bytes (code_of p)), length_header p.header p.eight, length_joined instruction_bytes 8 length_instruction (code_of p), length-take-le p.header.count (vec_items p.list) p.room)
 
   by_room : (short : Bool) → judged (cond short (Err (refusal NoRoomForImage (length bs))) (Ok (length bs))) (written (cond short (Err (refusal NoRoomForImage (length bs))) (Ok (length bs))) p (replicate room 165)) bs ≡ cond short (Refused (refusal NoRoomForImage (length bs))) (Written (length bs))
   by_room true = judged_refused (refusal NoRoomForImage (length bs)) bs room

@@ -3,7 +3,7 @@ ghost use Rattle.std.specs.Prelude.{◌≡◌, ℕ, List, [], length, replicate,
 ghost use Rattle.hexadecimal.specs.declared.DecodeError.TheVariants.{NotHexadecimal};
 ghost use Rattle.trials.specs.Given.{Gives};
 ghost use Rattle.image.specs.Images.{image_of};
-ghost use Rattle.image.specs.Reading.{code_in};
+ghost use Rattle.program.specs.Programs.{code_of};
 ghost use Rattle.trials.specs.Answers.{read_answer, write_answer, bytes_answer};
 ghost use Rattle.trials.specs.Tried.{Tried};
 
@@ -119,7 +119,7 @@ fn try_write(
     image: &[u8],
     cap: usize,
 ) -> Result<Answer, AllocError>
-    ensures { IfOk result (λ a. image_of program.now.header (code_in program.now) ≡ image.now → a ≡ bytes_answer (length image.now) cap) }
+    ensures { IfOk result (λ a. image_of program.now.header (code_of program.now) ≡ image.now → a ≡ bytes_answer (length image.now) cap) }
 {
     out.clear();
     out.resize(cap, answer::UNTOUCHED)?;
@@ -129,7 +129,7 @@ fn try_write(
 // The byte list holds nothing but filler.
 fn write_over(program: &Program, out: &mut [u8], image: &[u8]) -> Answer
     requires { out.old ≡ replicate (length out.old) 165 }
-    ensures { image_of program.now.header (code_in program.now) ≡ image.now → result ≡ bytes_answer (length image.now) (length out.old) }
+    ensures { image_of program.now.header (code_of program.now) ≡ image.now → result ≡ bytes_answer (length image.now) (length out.old) }
 {
     let answer = writer::write(program, out);
     answer::judge(answer, out, image)

@@ -1,11 +1,11 @@
 use Rattle.std.proofs.Common.{◌≡◌, ◌+◌, ◌≤◌, [], length, sym, ap, ◌∙◌, subst, arith}
 use Rattle.labels.specs.Sets.{sets}
 use Rattle.plan.specs.Planned.{Passable}
-use Rattle.machine.specs.Programs.{code_of}
+use Rattle.program.specs.Programs.{code_of}
 use Rattle.machine.proofs.Programs.{code_long}
 use Rattle.counting.specs.Counting.{Countable}
 use Rattle.groups.specs.Groups.{lengths}
-use Rattle.converter.specs.Conversion.{convert}
+use Rattle.conversion.specs.Conversion.{convert}
 use Rattle.converter.proofs.Results.{source_there, source_short, source_passable, plan_long, plan_there, result_countable}
 use Rattle.converter.proofs.attempt.Goals as goal
 

@@ -1,7 +1,7 @@
 use Rattle.std.proofs.Common.{◌++◌, length, take, drop, vec_items, sym, refl, ap, ◌∙◌, subst, arith}
 use Rattle.std.proofs.lemmas.List.{take_at}
 use Rattle.program.specs.Sound.{SoundList}
-use Rattle.machine.specs.Programs.{code_of}
+use Rattle.program.specs.Programs.{code_of}
 use Rattle.converter.specs.Converting.{result_of, result_header}
 use Rattle.converter.proofs.Results.{source_there, sound_list, straight}
 use Rattle.converter.proofs.convert.Goals as goal

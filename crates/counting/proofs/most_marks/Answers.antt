@@ -1,5 +1,5 @@
 use Rattle.std.proofs.Common.{◌≡◌, [], sym, ap, ◌∙◌, subst}
-use Rattle.machine.specs.Programs.{code_of}
+use Rattle.program.specs.Programs.{code_of}
 use Rattle.machine.proofs.Programs.{code_pairs}
 use Rattle.counting.specs.Counting.{Sum, sums, priced, mark_price, most_marks}
 use Rattle.counting.proofs.Sums.{summed, not_held}

@@ -1,6 +1,6 @@
 use Rattle.std.proofs.Common.{◌≡◌, ◌≤◌, ◌++◌, length, ap, ◌∙◌, arith, rules}
 use Rattle.std.proofs.lemmas.List.{append-nil, drop_all}
-use Rattle.machine.specs.Programs.{code_of}
+use Rattle.program.specs.Programs.{code_of}
 use Rattle.machine.proofs.Programs.{code_long, code_short, code_pairs}
 use Rattle.jumps.proofs.Resolving.{pass_none, pass_turn, pass_all}
 use Rattle.jumps.proofs.resolve.Goals as goal

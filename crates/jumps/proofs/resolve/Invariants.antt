@@ -1,6 +1,6 @@
 use Rattle.std.proofs.Common.{◌≡◌, ◌++◌, length, drop}
 use Rattle.stack.specs.Held.{held}
-use Rattle.machine.specs.Programs.{code_of}
+use Rattle.program.specs.Programs.{code_of}
 use Rattle.jumps.proofs.Resolving.{Passed}
 use Rattle.jumps.proofs.resolve.Given as goal
 

@@ -4,7 +4,7 @@ use Rattle.program.specs.Blocks.{Nested}
 use Rattle.stack.specs.Held.{held}
 use Rattle.machine.specs.declared.visit.Choice.TheVariants.{Fault}
 use Rattle.machine.specs.Machine.{state_of}
-use Rattle.machine.specs.Programs.{code_of}
+use Rattle.program.specs.Programs.{code_of}
 use Rattle.machine.proofs.Programs.{code_pairs}
 use Rattle.counting.specs.Counting.{most_steps}
 use Rattle.counting.proofs.Adding.{fits_eight}

@@ -1,6 +1,6 @@
 use Rattle.std.proofs.Common.{◌-◌}
 use Rattle.stack.specs.Held.{held}
-use Rattle.machine.specs.Programs.{code_of}
+use Rattle.program.specs.Programs.{code_of}
 use Rattle.counting.specs.Counting.{most_steps}
 use Rattle.run.proofs.Going.{At}
 use Rattle.run.proofs.go.Given as goal

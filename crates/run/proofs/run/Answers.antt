@@ -1,6 +1,6 @@
 use Rattle.std.proofs.Common.{refl}
 use Rattle.std.proofs.lemmas.Result.{err_from_is_err_and}
-use Rattle.machine.specs.Programs.{code_of}
+use Rattle.program.specs.Programs.{code_of}
 use Rattle.machine.proofs.Programs.{code_pairs}
 use Rattle.execution.proofs.Whole.{runs_end}
 use Rattle.run.proofs.Going.{nested_of, reads_nested}

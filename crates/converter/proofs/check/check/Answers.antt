@@ -6,7 +6,7 @@ use Rattle.brackets.specs.Labelled.{unmarked}
 use Rattle.labels.specs.Kinds.{secrecy}
 use Rattle.labels.specs.Sets.{sets, secret_tables}
 use Rattle.labels.proofs.Passing.{around_more, few_more}
-use Rattle.converter.specs.Refusing.{hidden_by, first_wrong}
+use Rattle.conversion.specs.Refusing.{hidden_by, first_wrong}
 use Rattle.converter.proofs.Within.{within}
 use Rattle.converter.proofs.Passing.{wrong_pass}
 use Rattle.converter.proofs.check.check.Goals as goal

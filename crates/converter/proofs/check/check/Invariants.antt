@@ -2,7 +2,7 @@ use Rattle.std.proofs.Common.{◌≡◌, [], drop}
 use Rattle.program.specs.Openings.{around}
 use Rattle.brackets.specs.Labelled.{unmarked}
 use Rattle.labels.specs.Sets.{sets, secret_tables}
-use Rattle.converter.specs.Refusing.{hidden_by, first_wrong}
+use Rattle.conversion.specs.Refusing.{hidden_by, first_wrong}
 use Rattle.converter.proofs.check.check.Given as goal
 
 abbrev pub invariant-loop-place : goal.invariant-loop-place

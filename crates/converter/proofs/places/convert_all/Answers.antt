@@ -7,7 +7,7 @@ use Rattle.labels.specs.Kinds.{secrecy}
 use Rattle.labels.specs.Sets.{sets}
 use Rattle.labels.proofs.Passing.{around_more, few_more}
 use Rattle.groups.specs.Groups.{lengths}
-use Rattle.converter.specs.Conversion.{convert}
+use Rattle.conversion.specs.Conversion.{convert}
 use Rattle.converter.proofs.Within.{within}
 use Rattle.converter.proofs.Passing.{convert_more}
 use Rattle.converter.proofs.Short.{longer}

@@ -3,7 +3,7 @@ use Rattle.program.specs.Openings.{around}
 use Rattle.brackets.specs.Labelled.{unmarked}
 use Rattle.labels.specs.Sets.{sets}
 use Rattle.groups.specs.Groups.{lengths}
-use Rattle.converter.specs.Conversion.{convert}
+use Rattle.conversion.specs.Conversion.{convert}
 use Rattle.converter.proofs.places.convert_all.Given as goal
 
 abbrev pub invariant-loop-place : goal.invariant-loop-place

@@ -1,7 +1,7 @@
 use Rattle.std.proofs.Common.{◌++◌, sym, ap, ◌∙◌}
 use Rattle.labels.specs.Sets.{sets}
 use Rattle.groups.specs.Groups.{lengths}
-use Rattle.converter.specs.Conversion.{becomes}
+use Rattle.conversion.specs.Conversion.{becomes}
 use Rattle.converter.proofs.places.convert_one.Goals as goal
 
 pub returns-in-Else : goal.returns-in-Else

@@ -6,7 +6,7 @@ use Rattle.instructions.specs.declared.Instruction.{Instruction}
 use Rattle.instructions.specs.declared.Instruction.TheVariants.{Do, Again}
 use Rattle.program.specs.Headers.{registers_of}
 use Rattle.machine.specs.Fits.{Fit}
-use Rattle.machine.specs.Programs.{code_of}
+use Rattle.program.specs.Programs.{code_of}
 use Rattle.machine.proofs.Fitting.{few_registers, fits}
 use Rattle.machine.proofs.places.at.Goals as goal
 

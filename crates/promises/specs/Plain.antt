@@ -1,6 +1,6 @@
 -- The plain bench: it has cells and no memory around them, and a go runs the source itself. It is
 -- fed only the calls that were accepted.
-use Rattle.std.specs.Prelude.{◌≡◌, ℕ, suc, ◌+◌, List, [], ◌∷◌, length, replicate, Some, None, vec_items, Option, slice_set}
+use Rattle.std.specs.Prelude.{◌≡◌, ℕ, suc, ◌+◌, List, length, replicate, Some, None, vec_items, Option, slice_set}
 use Rattle.program.specs.Headers.{first_cell}
 use Rattle.machine.specs.States.{State, held}
 use Rattle.machine.specs.Machine.{Conf, go, stop, state_of}

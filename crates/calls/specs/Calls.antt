@@ -1,5 +1,5 @@
 -- What each call refuses, answers and leaves.
-use Rattle.std.specs.Prelude.{ℕ, ◌+◌, Bool, cond, not, List, [], ◌∷◌, length, Some, None, Ok, Err, vec_items, Option, Result, nat_le, nat_lt, slice_set}
+use Rattle.std.specs.Prelude.{ℕ, ◌+◌, Bool, cond, not, List, [], ◌∷◌, length, Some, None, vec_items, Option, Result, nat_le, nat_lt, slice_set}
 use Rattle.program.specs.declared.refusal.Refusal.{Refusal}
 use Rattle.program.specs.declared.refusal.Reason.{Reason}
 use Rattle.program.specs.declared.refusal.Reason.TheVariants.{NotASource, TooManySteps, AlreadySeated, MemoryTooSmall, NoneSeated, NoSuchTable, IndexTooLarge, NoFreeMarks, NoSuchRegister, SecretTable, NoRoomForVisits, NoOutcome}

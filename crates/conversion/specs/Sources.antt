@@ -5,7 +5,7 @@ use Rattle.program.specs.declared.header.Header.{Header}
 use Rattle.program.specs.declared.header.Kind.TheVariants.{Source}
 use Rattle.program.specs.Sound.{SoundHeader, SoundList}
 use Rattle.groups.specs.Groups.{lengths}
-use Rattle.converter.specs.Conversion.{convert}
+use Rattle.conversion.specs.Conversion.{convert}
 
 pub record IsSource (h : Header) (code : List Instruction) : Type 0 where
   pub kind : h.kind ≡ Source

@@ -6,7 +6,7 @@ use Rattle.program.specs.declared.header.Header.{Header}
 use Rattle.program.specs.Blocks.{Block, done, one, if_then, if_else, loop, flat, depth, fin}
 use Rattle.machine.specs.Fits.{FitOp}
 use Rattle.groups.specs.Groups.{lengths, mask_at, op_group, if_group, else_group}
-use Rattle.trees.specs.Sources.{IsSource, result_by}
+use Rattle.conversion.specs.Sources.{IsSource, result_by}
 
 -- each if of a block that begins at p is noted as secret exactly where S has its register
 abbrev pub Noted : (ℕ → ℕ → Bool) → Block Bool → ℕ → Type 0
@@ -17,14 +17,14 @@ Noted S (if_else secret a t e b) p =
     (S p a ≡ secret) × Noted S t (suc p) × Noted S e (suc (fin t (suc p))) × Noted S b (suc (fin e (suc (fin t (suc p)))))
 Noted S (loop a k t b) p = Noted S t (suc p) × Noted S b (suc (fin t (suc p)))
 
--- registers below r, tables below u
+-- registers below r, tables below u, and no repeat goes round more than 1,024 times
 module _ (r u : ℕ) where
   abbrev pub FitBlock : Block Bool → Type 0
   FitBlock done = Unit {0}
   FitBlock (one op b) = FitOp r u op × FitBlock b
   FitBlock (if_then secret a t b) = (a < r) × FitBlock t × FitBlock b
   FitBlock (if_else secret a t e b) = (a < r) × FitBlock t × FitBlock e × FitBlock b
-  FitBlock (loop a k t b) = (a < r) × FitBlock t × FitBlock b
+  FitBlock (loop a k t b) = (a < r) × FitBlock t × FitBlock b × (k ≤ 1024)
 
 -- ops in front of a block
 abbrev pub ops : List Op → Block Bool → Block Bool

@@ -5,7 +5,7 @@ use Rattle.memory.specs.Description.{Mark, Description}
 use Rattle.memory.specs.Laws.{Lawful}
 use Rattle.labels.specs.Sets.{sets}
 use Rattle.plan.specs.Planned.{plan_of}
-use Rattle.simulation.specs.Simulation.{OneWay}
+use Rattle.conversion.specs.OneWay.{OneWay}
 use Rattle.calls.specs.declared.Call.{Call}
 use Rattle.calls.specs.declared.Call.TheVariants.{Seat, Put, Arg, Go, Look, Open, Outcome, Clear}
 use Rattle.calls.specs.declared.Answer.{Answer}

@@ -1,0 +1,3 @@
+// What a bench promises of every list of calls.
+
+#![tactic(auto)]

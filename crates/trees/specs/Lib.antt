@@ -1,2 +1,0 @@
-pub mod Sources
-pub mod Trees

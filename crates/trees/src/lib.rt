@@ -1,3 +1,0 @@
-// A source as nested blocks, and what those become.
-
-#![tactic(auto)]
