@@ -52,23 +52,41 @@ tracks_lower : (s : ℕ) (o : Out) (y : Words) → Tracks (suc s) o y → mask s
 tracks_lower s (fine x) y h e = record { low = h.low; mark = h.mark; cells = h.cells; on = e }
 tracks_lower s (fault p x) y h e = h
 
-track_either : (s n p : ℕ) (F G : State → Out) (f g : Words → Words) → Tracking s F f → Tracking s G g → Tracking s (either n p F G) (λ z. if_not0 n (f z) (g z))
-track_either s zero p F G f g α β x y h = β (visited p Past x) y (live_visited s p Past x y h)
-track_either s (suc n) p F G f g α β x y h = α (visited p Inward x) y (live_visited s p Inward x y h)
+-- two parts of a run, the second with what comes after the visit of a bracket
+track_next : (s : ℕ) (F K : State → Out) (f k : Words → Words) → Tracking s F f → Tracking s K k → Holds k → Tracking s (λ x. and_then (F x) K) (λ y. k (f y))
+track_next s F K f k α β i x y h = tracks_on s (F x) (f y) K k (α x y h) β i
+
+track_visited : (s p : ℕ) (K : State → Out) (k : Words → Words) → Tracking s K k → Tracking s (λ z. K (visited p Onward z)) k
+track_visited s p K k α x y h = α (visited p Onward x) y (live_visited s p Onward x y h)
+
+track_end : (s p : ℕ) (c : Choice) → Tracking s (λ z. fine (visited p c z)) (λ z. z)
+track_end s p c x y h = live_visited s p c x y h
+
+either_tracks : (s n p : ℕ) (F G : State → Out) (f g : Words → Words) → Tracking s F f → Tracking s G g → Tracking s (either n p F G) (λ z. if_not0 n (f z) (g z))
+either_tracks s zero p F G f g α β x y h = β (visited p Past x) y (live_visited s p Past x y h)
+either_tracks s (suc n) p F G f g α β x y h = α (visited p Inward x) y (live_visited s p Inward x y h)
+
+track_either : (s a p : ℕ) (F G : State → Out) (f g : Words → Words) → a < 16 → Tracking s F f → Tracking s G g
+    → Tracking s (λ x. either (x.registers a) p F G x) (λ z. if_not0 (z.registers a) (f z) (g z))
+track_either s a p F G f g l α β x y h = rw (h.low a l) (either_tracks s (x.registers a) p F G f g α β x y h)
 
 times_hold : (m : ℕ) (f : Words → Words) → Holds f → Holds (times m f)
 times_hold zero f α z n = refl
 times_hold (suc m) f α z n = let e = α z n in times_hold m f α (f z) (λ k. n (sym e ∙ k)) ∙ e
 
 track_rounds : (s m p : ℕ) (F : State → Out) (f : Words → Words) → Tracking s F f → Holds f → Tracking s (rounds F p m) (times (suc m) f)
-track_rounds s zero p F f α β x y h = tracks_on s (F x) (f y) (λ z. fine (visited p Past z)) (λ z. z) (α x y h) (λ a b g. live_visited s p Past a b g) (λ z n. refl)
-track_rounds s (suc m) p F f α β x y h =
-    tracks_on s (F x) (f y) (λ z. rounds F p m (visited p Inward z)) (times (suc m) f) (α x y h)
+track_rounds s zero p F f α β = track_next s F (λ z. fine (visited p Past z)) f (λ z. z) α (track_end s p Past) (λ z n. refl)
+track_rounds s (suc m) p F f α β =
+    track_next s F (λ z. rounds F p m (visited p Inward z)) f (times (suc m) f) α
     (λ a b g. track_rounds s m p F f α β (visited p Inward a) b (live_visited s p Inward a b g)) (times_hold (suc m) f β)
 
-track_repeats : (s m p q : ℕ) (F : State → Out) (f : Words → Words) → Tracking s F f → Holds f → Tracking s (repeats F p q m) (times m f)
-track_repeats s zero p q F f α β x y h = live_visited s p Past x y h
-track_repeats s (suc m) p q F f α β x y h = track_rounds s m q F f α β (visited p Inward x) y (live_visited s p Inward x y h)
+repeats_track : (s m p q : ℕ) (F : State → Out) (f : Words → Words) → Tracking s F f → Holds f → Tracking s (repeats F p q m) (times m f)
+repeats_track s zero p q F f α β x y h = live_visited s p Past x y h
+repeats_track s (suc m) p q F f α β x y h = track_rounds s m q F f α β (visited p Inward x) y (live_visited s p Inward x y h)
+
+track_repeats : (s a n p q : ℕ) (F : State → Out) (f : Words → Words) → a < 16 → Tracking s F f → Holds f
+    → Tracking s (λ x. repeats F p q (min (x.registers a) n) x) (λ z. times (min (z.registers a) n) f z)
+track_repeats s a n p q F f l α β x y h = rw (h.low a l) (repeats_track s (min (x.registers a) n) p q F f α β x y h)
 
 -- the mask of an arm: 0 where its arm is not taken, 1 where it is
 opened_zero : (s a : ℕ) (y : Words) → y.registers a ≡ 0 → (opened s a y).registers (16 + s) ≡ 0
@@ -253,23 +271,23 @@ module _ (tables : List Table) (used : ℕ) where
   holds b s p w d z = (stays tables used b s p w d z).held
 
   pub track : (b : Block Bool) (s p : ℕ) → FitBlock 16 used b → s + depth b ≤ 8 → Tracking s (exec tables b p) (predicated tables s b p)
-  track done s p w d x y h = h
-  track (one o b) s p w d x y h =
-      tracks_on s (does tables p o x) (predicated_op tables s p o y) (exec tables b (suc p)) (predicated tables s b (suc p))
-      (track_op s p o w.0 (omega arith) x y h) (track b s (suc p) w.1 d) (holds b s (suc p) w.1 d)
-  track (if_then true a t b) s p w d x y h =
+  track done s p w d = λ x y h. h
+  track (one o b) s p w d =
+      track_next s (does tables p o) (exec tables b (suc p)) (predicated_op tables s p o) (predicated tables s b (suc p))
+      (track_op s p o w.0 (omega arith)) (track b s (suc p) w.1 d) (holds b s (suc p) w.1 d)
+  track (if_then true a t b) s p w d = λ x y h.
       let r = fin t (suc p) in
       tracks_on s _ _ (λ z. exec tables b (suc r) (visited r Onward z)) (predicated tables s b (suc r))
       (track_arm s a p (exec tables t (suc p)) (predicated tables (suc s) t (suc p)) x y (omega arith) h
       (track t (suc s) (suc p) w.1 (omega arith)) (stays tables used t (suc s) (suc p) w.1 (omega arith)) (x.registers a) (h.low a w.0))
-      (λ x' y' g. track b s (suc r) w.2 (omega arith) (visited r Onward x') y' (live_visited s r Onward x' y' g)) (holds b s (suc r) w.2 (omega arith))
-  track (if_then false a t b) s p w d x y h =
+      (track_visited s r (exec tables b (suc r)) _ (track b s (suc r) w.2 (omega arith))) (holds b s (suc r) w.2 (omega arith))
+  track (if_then false a t b) s p w d =
       let r = fin t (suc p) in
-      tracks_on s (either (x.registers a) p (exec tables t (suc p)) fine x) (if_not0 (y.registers a) (predicated tables s t (suc p) y) y)
-      (λ z. exec tables b (suc r) (visited r Onward z)) (predicated tables s b (suc r))
-      (rw (h.low a w.0) (track_either s (x.registers a) p (exec tables t (suc p)) fine (predicated tables s t (suc p)) (λ z. z) (track t s (suc p) w.1 (omega arith)) (λ x' y' g. g) x y h))
-      (λ x' y' g. track b s (suc r) w.2 (omega arith) (visited r Onward x') y' (live_visited s r Onward x' y' g)) (holds b s (suc r) w.2 (omega arith))
-  track (if_else true a t e b) s p w d x y h =
+      let pt = predicated tables s t (suc p) in
+      track_next s (λ x. either (x.registers a) p (exec tables t (suc p)) fine x) _ (λ z. if_not0 (z.registers a) (pt z) z) (predicated tables s b (suc r))
+      (track_either s a p (exec tables t (suc p)) fine pt (λ z. z) w.0 (track t s (suc p) w.1 (omega arith)) (λ x y h. h))
+      (track_visited s r (exec tables b (suc r)) _ (track b s (suc r) w.2 (omega arith))) (holds b s (suc r) w.2 (omega arith))
+  track (if_else true a t e b) s p w d = λ x y h.
       let r = fin t (suc p) in
       let r' = fin e (suc r) in
       tracks_on s _ _ (λ z. exec tables b (suc r') (visited r' Onward z)) (predicated tables s b (suc r'))
@@ -277,20 +295,21 @@ module _ (tables : List Table) (used : ℕ) where
       (track t (suc s) (suc p) w.1 (omega arith)) (stays tables used t (suc s) (suc p) w.1 (omega arith))
       r (exec tables e (suc r)) (predicated tables (suc s) e (suc r)) (track e (suc s) (suc r) w.2 (omega arith)) (stays tables used e (suc s) (suc r) w.2 (omega arith))
       (x.registers a) (h.low a w.0))
-      (λ x' y' g. track b s (suc r') w.3 (omega arith) (visited r' Onward x') y' (live_visited s r' Onward x' y' g)) (holds b s (suc r') w.3 (omega arith))
-  track (if_else false a t e b) s p w d x y h =
+      (track_visited s r' (exec tables b (suc r')) _ (track b s (suc r') w.3 (omega arith))) (holds b s (suc r') w.3 (omega arith))
+  track (if_else false a t e b) s p w d =
       let r = fin t (suc p) in
       let r' = fin e (suc r) in
+      let pt = predicated tables s t (suc p) in
+      let pe = predicated tables s e (suc r) in
       let F = λ (z : State). and_then (exec tables t (suc p) z) (λ v. fine (visited r Onward v)) in
-      let φ : Tracking s F (predicated tables s t (suc p)) =
-      λ x' y' g. tracks_on s (exec tables t (suc p) x') (predicated tables s t (suc p) y') (λ v. fine (visited r Onward v)) (λ z. z) (track t s (suc p) w.1 (omega arith) x' y' g) (λ u v l. live_visited s r Onward u v l) (λ z n. refl) in
-      tracks_on s (either (x.registers a) p F (exec tables e (suc r)) x) (if_not0 (y.registers a) (predicated tables s t (suc p) y) (predicated tables s e (suc r) y))
-      (λ z. exec tables b (suc r') (visited r' Onward z)) (predicated tables s b (suc r'))
-      (rw (h.low a w.0) (track_either s (x.registers a) p F (exec tables e (suc r)) (predicated tables s t (suc p)) (predicated tables s e (suc r)) φ (track e s (suc r) w.2 (omega arith)) x y h))
-      (λ x' y' g. track b s (suc r') w.3 (omega arith) (visited r' Onward x') y' (live_visited s r' Onward x' y' g)) (holds b s (suc r') w.3 (omega arith))
-  track (loop a k t b) s p w d x y h =
+      track_next s (λ x. either (x.registers a) p F (exec tables e (suc r)) x) _ (λ z. if_not0 (z.registers a) (pt z) (pe z)) (predicated tables s b (suc r'))
+      (track_either s a p F (exec tables e (suc r)) pt pe w.0
+      (track_next s (exec tables t (suc p)) _ pt (λ z. z) (track t s (suc p) w.1 (omega arith)) (track_end s r Onward) (λ z n. refl))
+      (track e s (suc r) w.2 (omega arith)))
+      (track_visited s r' (exec tables b (suc r')) _ (track b s (suc r') w.3 (omega arith))) (holds b s (suc r') w.3 (omega arith))
+  track (loop a k t b) s p w d =
       let r = fin t (suc p) in
-      tracks_on s (repeats (exec tables t (suc p)) p r (min (x.registers a) k) x) (times (min (y.registers a) k) (predicated tables s t (suc p)) y)
-      (exec tables b (suc r)) (predicated tables s b (suc r))
-      (rw (h.low a w.0) (track_repeats s (min (x.registers a) k) p r (exec tables t (suc p)) (predicated tables s t (suc p)) (track t s (suc p) w.1 (omega arith)) (holds t s (suc p) w.1 (omega arith)) x y h))
+      let pt = predicated tables s t (suc p) in
+      track_next s (λ x. repeats (exec tables t (suc p)) p r (min (x.registers a) k) x) (exec tables b (suc r)) (λ z. times (min (z.registers a) k) pt z) (predicated tables s b (suc r))
+      (track_repeats s a k p r (exec tables t (suc p)) pt w.0 (track t s (suc p) w.1 (omega arith)) (holds t s (suc p) w.1 (omega arith)))
       (track b s (suc r) w.2 (omega arith)) (holds b s (suc r) w.2 (omega arith))

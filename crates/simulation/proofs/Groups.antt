@@ -98,12 +98,11 @@ module _ (tables : List Table) (used : ℕ) where
       record { registers = λ x hx. simp (A.same, B.same, D.same, h.registers x hx); cells = h.cells }
   group_near zero p (Load d a t) z u w hs h =
       let A = read z u h a (omega arith) in
-      let D = read z u h d (omega arith) in
       let r24 = h.registers 24 (omega arith) in
       record {
         registers = λ x hx.
             let X = apart x hx in
-            simp (X.e25, X.e26, X.e27, X.e28, A.e25, A.e26, D.e24, D.e25, D.e26, D.e27, D.e28, A.same, D.same, r24, h.registers x hx, cell_at z u h);
+            simp (X.e25, X.e26, X.e27, X.e28, A.e25, A.e26, A.same, r24, h.registers x hx, cell_at z u h);
         cells = h.cells;
       }
   group_near zero p (Store d a t) z u w hs h =
@@ -161,7 +160,7 @@ module _ (tables : List Table) (used : ℕ) where
   if_near zero a z u ha hs h =
       let A = read z u h a (omega arith) in
       record {
-        registers = λ x hx. let X = apart x hx in simp (A.e25, A.e26, X.e25, X.e26, A.same, h.registers x hx);
+        registers = λ x hx. let X = apart x hx in simp (A.e25, X.e25, X.e26, A.same, h.registers x hx);
         cells = h.cells;
       }
   if_near (suc n) a z u ha hs h =
@@ -170,7 +169,7 @@ module _ (tables : List Table) (used : ℕ) where
       let N : eqb (16 + suc n) (16 + suc n) ≡ true = eq-eqb (16 + suc n) (16 + suc n) refl in
       let MN : eqb (16 + n) (16 + suc n) ≡ false = ne_eqb (16 + n) (16 + suc n) (λ e. omega arith) in
       record {
-        registers = λ x hx. let X = apart x hx in simp (cond_twice, A.e25, A.e26, X.e25, X.e26, M.e25, M.e26, N, MN, A.same, M.same, h.registers x hx);
+        registers = λ x hx. let X = apart x hx in simp (cond_twice, A.e25, X.e25, X.e26, M.e25, M.e26, N, MN, A.same, M.same, h.registers x hx);
         cells = h.cells;
       }
 

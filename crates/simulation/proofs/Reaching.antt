@@ -33,17 +33,29 @@ module _ (tables : List Table) where
       let y = β x.1 (f u) x.3 in
       (y.0, y.1, ap (λ o. and_then o K) x.2 ∙ y.2, y.3)
 
-  either_reaches : (n p : ℕ) (F G : State → Out) (f g : Words → Words) → Reaches F done f → Reaches G done g → Reaches (either n p F G) done (λ u. if_not0 n (f u) (g u))
-  either_reaches zero p F G f g α β s u h = β (visited p Past s) u h
-  either_reaches (suc n) p F G f g α β s u h = α (visited p Inward s) u h
+  either_at : (n p : ℕ) (F G : State → Out) (f g : Words → Words) → Reaches F done f → Reaches G done g → Reaches (either n p F G) done (λ u. if_not0 n (f u) (g u))
+  either_at zero p F G f g α β s u h = β (visited p Past s) u h
+  either_at (suc n) p F G f g α β s u h = α (visited p Inward s) u h
+
+  either_reaches : (a p : ℕ) (F G : State → Out) (f g : Words → Words) → a < 16 → Reaches F done f → Reaches G done g
+      → Reaches (λ s. either (s.registers a) p F G s) done (λ u. if_not0 (u.registers a) (f u) (g u))
+  either_reaches a p F G f g l α β s u h =
+      let x = either_at (u.registers a) p F G f g α β s u h in
+      (x.0, x.1, ap (λ m. either m p F G s) (h.registers a (omega arith)) ∙ x.2, x.3)
 
   rounds_reach : (m q : ℕ) (F : State → Out) (f : Words → Words) → Reaches F done f → Reaches (rounds F q m) done (times (suc m) f)
   rounds_reach zero q F f α = and_next F (λ z. fine (visited q Past z)) done f (λ u. u) α (λ s u h. (0, visited q Past s, refl, h))
   rounds_reach (suc m) q F f α = and_next F (λ z. rounds F q m (visited q Inward z)) done f (times (suc m) f) α (λ s u h. rounds_reach m q F f α (visited q Inward s) u h)
 
-  repeats_reach : (m p q : ℕ) (F : State → Out) (f : Words → Words) → Reaches F done f → Reaches (repeats F p q m) done (times m f)
-  repeats_reach zero p q F f α s u h = (0, visited p Past s, refl, h)
-  repeats_reach (suc m) p q F f α s u h = rounds_reach m q F f α (visited p Inward s) u h
+  repeats_at : (m p q : ℕ) (F : State → Out) (f : Words → Words) → Reaches F done f → Reaches (repeats F p q m) done (times m f)
+  repeats_at zero p q F f α s u h = (0, visited p Past s, refl, h)
+  repeats_at (suc m) p q F f α s u h = rounds_reach m q F f α (visited p Inward s) u h
+
+  repeats_reach : (a n p q : ℕ) (F : State → Out) (f : Words → Words) → a < 16 → Reaches F done f
+      → Reaches (λ s. repeats F p q (min (s.registers a) n) s) done (λ u. times (min (u.registers a) n) f u)
+  repeats_reach a n p q F f l α s u h =
+      let x = repeats_at (min (u.registers a) n) p q F f α s u h in
+      (x.0, x.1, ap (λ m. repeats F p q (min m n) s) (h.registers a (omega arith)) ∙ x.2, x.3)
 
   ops_reach : (os : List Op) (k : Block Bool) (q : ℕ) (f : Words → Words) → ((z : Words) → AllInRange tables os z)
       → ((z u : Words) → Near z u → Near (effects tables os z) (f u)) → Reaches (exec tables (ops os k) q) k f
@@ -63,54 +75,51 @@ module _ (tables : List Table) (used : ℕ) (roomy : Roomy tables used) where
   reaches (if_then true a t b) s p q k w d =
       let p1 = suc (fin t (suc p)) in
       let kb = converted (lengths tables) s b p1 k in
-      and_on tables _ (converted (lengths tables) (suc s) t (suc p) kb) k (opened s a) (λ z. predicated tables s b p1 (predicated tables (suc s) t (suc p) z))
+      let pt = predicated tables (suc s) t (suc p) in
+      let pb = predicated tables s b p1 in
+      and_on tables _ (converted (lengths tables) (suc s) t (suc p) kb) k (opened s a) (λ z. pb (pt z))
       (ops_reach tables (if_group (mask_at s) (16 + s) a) _ q (opened s a) (if_in_range tables used s a) (λ z u. if_near tables used s a z u w.0 (omega arith)))
-      (λ r. and_on tables _ kb k (predicated tables (suc s) t (suc p)) (predicated tables s b p1) (reaches t (suc s) (suc p) r kb w.1 (omega arith)) (λ r'. reaches b s p1 r' k w.2 (omega arith)))
-  reaches (if_then false a t b) s p q k w d = λ z u h.
-      let p1 = suc (fin t (suc p)) in
+      (λ r. and_on tables _ kb k pt pb (reaches t (suc s) (suc p) r kb w.1 (omega arith)) (λ r'. reaches b s p1 r' k w.2 (omega arith)))
+  reaches (if_then false a t b) s p q k w d =
       let T = converted (lengths tables) s t (suc p) done in
-      let B = converted (lengths tables) s b p1 k in
       let q1 = fin T (suc q) in
-      let K = λ (y : State). exec tables B (suc q1) (visited q1 Onward y) in
-      let α = either_reaches tables (u.registers a) q (exec tables T (suc q)) fine (predicated tables s t (suc p)) (λ y. y)
-      (reaches t s (suc p) (suc q) done w.1 (omega arith)) (λ x v g. (0, x, refl, g)) in
-      let x = and_next tables _ K k _ (predicated tables s b p1) α (λ y v g. reaches b s p1 (suc q1) k w.2 (omega arith) (visited q1 Onward y) v g) z u h in
-      (x.0, x.1, ap (λ m. and_then (either m q (exec tables T (suc q)) fine z) K) (h.registers a (omega arith)) ∙ x.2, x.3)
+      let pt = predicated tables s t (suc p) in
+      and_next tables (λ z. either (z.registers a) q (exec tables T (suc q)) fine z) _ k (λ z. if_not0 (z.registers a) (pt z) z) (predicated tables s b _)
+      (either_reaches tables a q (exec tables T (suc q)) fine pt (λ z. z) w.0 (reaches t s (suc p) (suc q) done w.1 (omega arith)) (λ z u h. (0, z, refl, h)))
+      (λ z u h. reaches b s _ (suc q1) k w.2 (omega arith) (visited q1 Onward z) u h)
   reaches (if_else true a t e b) s p q k w d =
       let r = fin t (suc p) in
       let p1 = suc (fin e (suc r)) in
       let kb = converted (lengths tables) s b p1 k in
       let ke = converted (lengths tables) (suc s) e (suc r) kb in
       let ko = ops (else_group (mask_at s) (16 + s)) ke in
-      and_on tables _ (converted (lengths tables) (suc s) t (suc p) ko) k (opened s a)
-      (λ z. predicated tables s b p1 (predicated tables (suc s) e (suc r) (inverted s (predicated tables (suc s) t (suc p) z))))
+      let pt = predicated tables (suc s) t (suc p) in
+      let pe = predicated tables (suc s) e (suc r) in
+      let pb = predicated tables s b p1 in
+      and_on tables _ (converted (lengths tables) (suc s) t (suc p) ko) k (opened s a) (λ z. pb (pe (inverted s (pt z))))
       (ops_reach tables (if_group (mask_at s) (16 + s) a) _ q (opened s a) (if_in_range tables used s a) (λ z u. if_near tables used s a z u w.0 (omega arith)))
-      (λ q1. and_on tables _ ko k (predicated tables (suc s) t (suc p)) (λ z. predicated tables s b p1 (predicated tables (suc s) e (suc r) (inverted s z)))
-      (reaches t (suc s) (suc p) q1 ko w.1 (omega arith))
-      (λ q2. and_on tables _ ke k (inverted s) (λ z. predicated tables s b p1 (predicated tables (suc s) e (suc r) z))
+      (λ q1. and_on tables _ ko k pt (λ z. pb (pe (inverted s z))) (reaches t (suc s) (suc p) q1 ko w.1 (omega arith))
+      (λ q2. and_on tables _ ke k (inverted s) (λ z. pb (pe z))
       (ops_reach tables (else_group (mask_at s) (16 + s)) ke q2 (inverted s) (else_in_range tables used s) (λ z u. else_near tables used s z u (omega arith)))
-      (λ q3. and_on tables _ kb k (predicated tables (suc s) e (suc r)) (predicated tables s b p1) (reaches e (suc s) (suc r) q3 kb w.2 (omega arith)) (λ q4. reaches b s p1 q4 k w.3 (omega arith)))))
-  reaches (if_else false a t e b) s p q k w d = λ z u h.
+      (λ q3. and_on tables _ kb k pe pb (reaches e (suc s) (suc r) q3 kb w.2 (omega arith)) (λ q4. reaches b s p1 q4 k w.3 (omega arith)))))
+  reaches (if_else false a t e b) s p q k w d =
       let r = fin t (suc p) in
-      let p1 = suc (fin e (suc r)) in
       let T = converted (lengths tables) s t (suc p) done in
       let E = converted (lengths tables) s e (suc r) done in
-      let B = converted (lengths tables) s b p1 k in
       let q1 = fin T (suc q) in
       let q2 = fin E (suc q1) in
+      let pt = predicated tables s t (suc p) in
+      let pe = predicated tables s e (suc r) in
       let F = λ (y : State). and_then (exec tables T (suc q) y) (λ v. fine (visited q1 Onward v)) in
-      let K = λ (y : State). exec tables B (suc q2) (visited q2 Onward y) in
-      let φ = and_next tables (exec tables T (suc q)) (λ v. fine (visited q1 Onward v)) done (predicated tables s t (suc p)) (λ y. y)
-      (reaches t s (suc p) (suc q) done w.1 (omega arith)) (λ y v g. (0, visited q1 Onward y, refl, g)) in
-      let α = either_reaches tables (u.registers a) q F (exec tables E (suc q1)) (predicated tables s t (suc p)) (predicated tables s e (suc r)) φ
-      (reaches e s (suc r) (suc q1) done w.2 (omega arith)) in
-      let x = and_next tables _ K k _ (predicated tables s b p1) α (λ y v g. reaches b s p1 (suc q2) k w.3 (omega arith) (visited q2 Onward y) v g) z u h in
-      (x.0, x.1, ap (λ m. and_then (either m q F (exec tables E (suc q1)) z) K) (h.registers a (omega arith)) ∙ x.2, x.3)
-  reaches (loop a n t b) s p q k w d = λ z u h.
-      let p1 = suc (fin t (suc p)) in
+      and_next tables (λ z. either (z.registers a) q F (exec tables E (suc q1)) z) _ k (λ z. if_not0 (z.registers a) (pt z) (pe z)) (predicated tables s b _)
+      (either_reaches tables a q F (exec tables E (suc q1)) pt pe w.0
+      (and_next tables (exec tables T (suc q)) _ done pt (λ z. z) (reaches t s (suc p) (suc q) done w.1 (omega arith)) (λ z u h. (0, visited q1 Onward z, refl, h)))
+      (reaches e s (suc r) (suc q1) done w.2 (omega arith)))
+      (λ z u h. reaches b s _ (suc q2) k w.3 (omega arith) (visited q2 Onward z) u h)
+  reaches (loop a n t b) s p q k w d =
       let T = converted (lengths tables) s t (suc p) done in
-      let B = converted (lengths tables) s b p1 k in
       let q1 = fin T (suc q) in
-      let α = repeats_reach tables (min (u.registers a) n) q q1 (exec tables T (suc q)) (predicated tables s t (suc p)) (reaches t s (suc p) (suc q) done w.1 (omega arith)) in
-      let x = and_next tables _ (exec tables B (suc q1)) k _ (predicated tables s b p1) α (reaches b s p1 (suc q1) k w.2 (omega arith)) z u h in
-      (x.0, x.1, ap (λ m. and_then (repeats (exec tables T (suc q)) q q1 (min m n) z) (exec tables B (suc q1))) (h.registers a (omega arith)) ∙ x.2, x.3)
+      let pt = predicated tables s t (suc p) in
+      and_next tables (λ z. repeats (exec tables T (suc q)) q q1 (min (z.registers a) n) z) _ k (λ z. times (min (z.registers a) n) pt z) (predicated tables s b _)
+      (repeats_reach tables a n q q1 (exec tables T (suc q)) pt w.0 (reaches t s (suc p) (suc q) done w.1 (omega arith)))
+      (reaches b s _ (suc q1) k w.2 (omega arith))
