@@ -1,5 +1,5 @@
 -- The predicated machine follows the source, wherever the mask is 1.
-use Rattle.std.proofs.Common.{◌≡◌, ℕ, zero, suc, ◌+◌, ◌<◌, ◌≤◌, min, Bool, true, false, eqb, ltb, List, refl, sym, ap, ◌∙◌, arith, eq-eqb}
+use Rattle.std.proofs.Common.{◌≡◌, ℕ, zero, suc, ◌+◌, ◌<◌, ◌≤◌, min, Bool, true, false, ltb, List, refl, sym, ◌∙◌, arith, eq-eqb}
 use Rattle.std.proofs.Math.Dec.{eqb-suc-zero}
 use Rattle.instructions.specs.declared.Op.{Op}
 use Rattle.instructions.specs.declared.Op.TheVariants.{Set, Pick, Load, Store}
@@ -16,7 +16,7 @@ use Rattle.conversion.specs.Trees.{FitBlock}
 use Rattle.simulation.proofs.Straight.{Words}
 use Rattle.simulation.proofs.Predicated.{mask, opened, inverted, times, first_bad, predicated_op, predicated}
 use Rattle.simulation.proofs.Groups.{value_same}
-use Rattle.simulation.proofs.Staying.{Quiet, Stays, not_below, not_above, quiet_both, opened_else, inverted_else, opened_quiet, inverted_quiet, mask_kept, stays}
+use Rattle.simulation.proofs.Staying.{Quiet, Stays, not_below, not_above, quiet_both, opened_else, inverted_else, opened_quiet, inverted_quiet, stays}
 
 -- y has the words of x, 24 marks nothing, and the mask is 1
 pub record Live (s : ℕ) (x : State) (y : Words) : Type 0 where

@@ -1,18 +1,17 @@
 -- Each group does what its op does on the predicated machine.
-use Rattle.std.proofs.Common.{◌≡◌, ℕ, zero, suc, ◌+◌, ◌<◌, ◌≤◌, Bool, true, false, cond, eqb, ltb, List, [], ◌∷◌, refl, ap, ◌∙◌, arith, ne_eqb, eq-eqb, lt-ltb}
+use Rattle.std.proofs.Common.{◌≡◌, ℕ, zero, suc, ◌+◌, ◌<◌, ◌≤◌, Bool, true, false, cond, eqb, ltb, List, refl, ap, arith, ne_eqb, eq-eqb, lt-ltb}
 use Rattle.instructions.specs.declared.Value.{Value}
 use Rattle.instructions.specs.declared.Value.TheVariants.{Const, Move, Binary, Shift}
 use Rattle.instructions.specs.declared.Op.{Op}
 use Rattle.instructions.specs.declared.Op.TheVariants.{Set, Pick, Load, Store}
 use Rattle.program.specs.declared.header.Table.{Table}
-use Rattle.program.specs.Headers.{first_cell}
 use Rattle.machine.specs.Fits.{FitValue, FitOp}
 use Rattle.machine.specs.Words.{bit, value_of}
 use Rattle.machine.specs.Machine.{if_not0, length_of}
 use Rattle.groups.specs.Groups.{lengths, mask_at, op_group, if_group, else_group}
 use Rattle.simulation.specs.Simulation.{Roomy}
 use Rattle.simulation.proofs.Straight.{Words, effects, AllInRange}
-use Rattle.simulation.proofs.Predicated.{Near, opened, inverted, within, index, predicated_op}
+use Rattle.simulation.proofs.Predicated.{Near, opened, inverted, predicated_op}
 
 -- a register below 25 is none of those that groups use
 pub record Apart (x : ℕ) : Type 0 where

@@ -1,12 +1,11 @@
 -- Converted blocks never fault, and do what the predicated machine does on their source.
-use Rattle.std.proofs.Common.{◌≡◌, ℕ, zero, suc, ◌+◌, ◌<◌, ◌≤◌, min, Bool, true, false, List, refl, sym, ap, ◌∙◌, arith}
+use Rattle.std.proofs.Common.{◌≡◌, ℕ, zero, suc, ◌+◌, ◌<◌, ◌≤◌, min, Bool, true, false, List, refl, ap, ◌∙◌, arith}
 use Rattle.instructions.specs.declared.Op.{Op}
 use Rattle.program.specs.declared.header.Table.{Table}
 use Rattle.program.specs.Blocks.{Block, done, one, if_then, if_else, loop, depth, fin}
 use Rattle.machine.specs.declared.visit.Choice.TheVariants.{Onward, Inward, Past}
-use Rattle.machine.specs.Fits.{FitOp}
 use Rattle.machine.specs.States.{State, visited}
-use Rattle.machine.specs.Machine.{Out, fine, fault, if_not0}
+use Rattle.machine.specs.Machine.{Out, fine, if_not0}
 use Rattle.machine.specs.Nested.{and_then, rounds, repeats, either, exec}
 use Rattle.groups.specs.Groups.{lengths, mask_at, op_group, if_group, else_group}
 use Rattle.conversion.specs.Trees.{FitBlock, ops, converted}

@@ -1,8 +1,7 @@
 -- Converted blocks never fault, and follow their source.
-use Rattle.std.proofs.Common.{◌≡◌, ℕ, suc, ◌+◌, ◌<◌, ◌≤◌, Bool, List, refl, sym, ap, ◌∙◌, arith}
+use Rattle.std.proofs.Common.{refl, ◌∙◌, arith}
 use mathlib.Core.Path.{fun_ext}
-use Rattle.program.specs.declared.header.Table.{Table}
-use Rattle.program.specs.Blocks.{Block, done, depth}
+use Rattle.program.specs.Blocks.{done}
 use Rattle.machine.specs.States.{State}
 use Rattle.machine.specs.Machine.{Out, fine, fault}
 use Rattle.machine.specs.Nested.{exec}
