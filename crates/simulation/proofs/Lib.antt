@@ -5,3 +5,6 @@ pub mod Reaching
 pub mod Staying
 pub mod Following
 pub mod Simulation
+pub mod OneWay
+pub mod Bounds
+pub mod Results
