@@ -1,5 +1,5 @@
 -- The most that converted blocks count.
-use Rattle.std.proofs.Common.{◌≡◌, ℕ, zero, suc, ◌+◌, ◌*◌, ◌≤◌, max, Bool, true, false, ltb, List, [], ◌∷◌, length, refl, sym, subst, mul-le-mul_left, arith}
+use Rattle.std.proofs.Common.{◌≡◌, ℕ, zero, suc, ◌+◌, ◌≤◌, Bool, true, false, ltb, List, [], ◌∷◌, length, refl, subst, mul-le-mul_left, arith}
 use Rattle.instructions.specs.declared.Op.{Op}
 use Rattle.instructions.specs.declared.Op.TheVariants.{Set, Pick, Load, Store}
 use Rattle.program.specs.declared.header.Table.{Table}
@@ -11,7 +11,7 @@ use Rattle.machine.specs.Nested.{and_then, exec}
 use Rattle.machine.specs.Most.{Price, each_step, weigh, price, most_of}
 use Rattle.groups.specs.Groups.{lengths, mask_at, op_group, if_group, else_group}
 use Rattle.conversion.specs.Trees.{ops, converted}
-use Rattle.simulation.specs.OneWay.{OneWayBlock, OpsAlone}
+use Rattle.simulation.specs.OneWay.{OpsAlone}
 use Rattle.simulation.specs.Bounds.{StepsGrow, CountsMost}
 use Rattle.simulation.proofs.OneWay.{one_way_ops}
 

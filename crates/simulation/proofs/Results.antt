@@ -1,20 +1,18 @@
 -- What conversion keeps, of programs.
-use Rattle.std.proofs.Common.{◌≡◌, ℕ, suc, ◌+◌, ◌<◌, ◌≤◌, Bool, true, false, List, [], length, refl, sym, ap, ◌∙◌, subst, arith, lt-ltb, leb-true, nat_le, ◌&&◌, slice_index_or}
+use Rattle.std.proofs.Common.{◌≡◌, ℕ, ◌≤◌, Bool, true, List, [], length, sym, ap, ◌∙◌, subst, arith, lt-ltb, leb-true, nat_le, slice_index_or}
 use Rattle.std.proofs.lemmas.Bool.{and_parts}
 use Rattle.instructions.specs.declared.Instruction.{Instruction}
 use Rattle.program.specs.declared.header.Header.{Header}
-use Rattle.program.specs.declared.header.Table.{Table}
 use Rattle.program.specs.Headers.{no_table, table_fits}
 use Rattle.program.specs.Sound.{SoundHeader}
-use Rattle.program.specs.Blocks.{Block, done, flat, depth}
-use Rattle.memory.specs.declared.Access.{Access}
+use Rattle.program.specs.Blocks.{Block, done}
 use Rattle.machine.specs.States.{State}
-use Rattle.machine.specs.Machine.{Out, fine, fault, Conf, go, stop, length_of, land, steps, count}
+use Rattle.machine.specs.Machine.{Out, fine, fault, go, length_of, land, steps}
 use Rattle.machine.specs.Nested.{exec}
-use Rattle.machine.specs.Most.{Price, each_step, hold, weigh, most_of}
+use Rattle.machine.specs.Most.{Price, each_step, hold, most_of}
 use Rattle.execution.proofs.Counted.{counted}
 use Rattle.execution.proofs.Onward.{comes}
-use Rattle.counting.specs.Counting.{sums, most_steps, mark_price, most_marks}
+use Rattle.counting.specs.Counting.{sums, most_steps, mark_price}
 use Rattle.counting.proofs.Sums.{sums_is}
 use Rattle.groups.specs.Groups.{lengths}
 use Rattle.conversion.specs.Sources.{result_by}
