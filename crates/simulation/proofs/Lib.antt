@@ -3,6 +3,9 @@ pub mod Predicated
 pub mod Groups
 pub mod Reaching
 pub mod Staying
+pub mod Tracking
+pub mod Arms
+pub mod TrackedOps
 pub mod Following
 pub mod Simulation
 pub mod OneWay

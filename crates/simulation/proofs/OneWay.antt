@@ -25,7 +25,7 @@ one_way S (if_else secret a t e b) p is n h =
 one_way S (loop a k t b) p is n h = elim h [ ]
 
 pub one_way_nested : OneWayNested
-one_way_nested S b n h = (one_way S b 0 [] n h).0
+one_way_nested S b p n h = (one_way S b p [] n h).0
 
 alone_ops : (os : List Op) (k : Block Bool) → OpsAlone k → OpsAlone (ops os k)
 alone_ops [] k h = h
@@ -36,13 +36,17 @@ module _ (long : ℕ → ℕ) where
   alone done s p k m h = h
   alone (one op b) s p k m h = alone_ops (op_group long (mask_at s) p op) _ (alone b s (suc p) k m h)
   alone (if_then true a t b) s p k m h =
-      alone_ops (if_group (mask_at s) (16 + s) a) _ (alone t (suc s) (suc p) _ m.1 (alone b s (suc (fin t (suc p))) k m.2 h))
+      let kb = converted long s b (suc (fin t (suc p))) k in
+      alone_ops (if_group (mask_at s) (16 + s) a) (converted long (suc s) t (suc p) kb) (alone t (suc s) (suc p) kb m.1 (alone b s (suc (fin t (suc p))) k m.2 h))
   alone (if_then false a t b) s p k m h = absurd (true≢false (sym m.0))
   alone (if_else true a t e b) s p k m h =
       let q = fin t (suc p) in
-      alone_ops (if_group (mask_at s) (16 + s) a) _
-      (alone t (suc s) (suc p) _ m.1
-      (alone_ops (else_group (mask_at s) (16 + s)) _ (alone e (suc s) (suc q) _ m.2 (alone b s (suc (fin e (suc q))) k m.3 h))))
+      let kb = converted long s b (suc (fin e (suc q))) k in
+      let ke = converted long (suc s) e (suc q) kb in
+      let ko = ops (else_group (mask_at s) (16 + s)) ke in
+      alone_ops (if_group (mask_at s) (16 + s) a) (converted long (suc s) t (suc p) ko)
+      (alone t (suc s) (suc p) ko m.1
+      (alone_ops (else_group (mask_at s) (16 + s)) ke (alone e (suc s) (suc q) kb m.2 (alone b s (suc (fin e (suc q))) k m.3 h))))
   alone (if_else false a t e b) s p k m h = absurd (true≢false (sym m.0))
   alone (loop a n t b) s p k m h = elim m [ ]
 

@@ -74,10 +74,11 @@ module _ (tables : List Table) (used : ℕ) (roomy : Roomy tables used) where
   reaches (if_then true a t b) s p q k w d =
       let p1 = suc (fin t (suc p)) in
       let kb = converted (lengths tables) s b p1 k in
+      let kt = converted (lengths tables) (suc s) t (suc p) kb in
       let pt = predicated tables (suc s) t (suc p) in
       let pb = predicated tables s b p1 in
-      and_on tables _ (converted (lengths tables) (suc s) t (suc p) kb) k (opened s a) (λ z. pb (pt z))
-      (ops_reach tables (if_group (mask_at s) (16 + s) a) _ q (opened s a) (if_in_range tables used s a) (λ z u. if_near tables used s a z u w.0 (omega arith)))
+      and_on tables _ kt k (opened s a) (λ z. pb (pt z))
+      (ops_reach tables (if_group (mask_at s) (16 + s) a) kt q (opened s a) (if_in_range tables used s a) (λ z u. if_near tables used s a z u w.0 (omega arith)))
       (λ r. and_on tables _ kb k pt pb (reaches t (suc s) (suc p) r kb w.1 (omega arith)) (λ r'. reaches b s p1 r' k w.2 (omega arith)))
   reaches (if_then false a t b) s p q k w d =
       let T = converted (lengths tables) s t (suc p) done in
@@ -92,11 +93,12 @@ module _ (tables : List Table) (used : ℕ) (roomy : Roomy tables used) where
       let kb = converted (lengths tables) s b p1 k in
       let ke = converted (lengths tables) (suc s) e (suc r) kb in
       let ko = ops (else_group (mask_at s) (16 + s)) ke in
+      let kt = converted (lengths tables) (suc s) t (suc p) ko in
       let pt = predicated tables (suc s) t (suc p) in
       let pe = predicated tables (suc s) e (suc r) in
       let pb = predicated tables s b p1 in
-      and_on tables _ (converted (lengths tables) (suc s) t (suc p) ko) k (opened s a) (λ z. pb (pe (inverted s (pt z))))
-      (ops_reach tables (if_group (mask_at s) (16 + s) a) _ q (opened s a) (if_in_range tables used s a) (λ z u. if_near tables used s a z u w.0 (omega arith)))
+      and_on tables _ kt k (opened s a) (λ z. pb (pe (inverted s (pt z))))
+      (ops_reach tables (if_group (mask_at s) (16 + s) a) kt q (opened s a) (if_in_range tables used s a) (λ z u. if_near tables used s a z u w.0 (omega arith)))
       (λ q1. and_on tables _ ko k pt (λ z. pb (pe (inverted s z))) (reaches t (suc s) (suc p) q1 ko w.1 (omega arith))
       (λ q2. and_on tables _ ke k (inverted s) (λ z. pb (pe z))
       (ops_reach tables (else_group (mask_at s) (16 + s)) ke q2 (inverted s) (else_in_range tables used s) (λ z u. else_near tables used s z u (omega arith)))

@@ -83,7 +83,7 @@ result_follows S h code x sound tree short e =
 pub result_counts_most : ResultCountsMost
 result_counts_most S h code x z tree one short e =
     let c = result_by S h code in
-    let way = one_way_nested S tree.block tree.notes (subst (OneWay S 0) (sym tree.row) one) in
+    let way = one_way_nested S tree.block 0 tree.notes (subst (OneWay S 0) (sym tree.row) one) in
     let f = land_fine _ (length c) z (sym (result_comes S h code tree short x) ∙ e) in
     let most = λ (w : Price). counts_most w h.tables tree.block 0 0 x z way f in (
       (let a = most each_step in

@@ -9,7 +9,8 @@ use Rattle.simulation.specs.Simulation.{Follows, Simulates}
 use Rattle.simulation.proofs.Straight.{Words, words_of}
 use Rattle.simulation.proofs.Predicated.{Near}
 use Rattle.simulation.proofs.Reaching.{reaches}
-use Rattle.simulation.proofs.Following.{Tracks, track}
+use Rattle.simulation.proofs.Tracking.{Tracks}
+use Rattle.simulation.proofs.Following.{track}
 
 near_same : (x : Words) → Near x x
 near_same x = record { registers = λ r h. refl; cells = refl }

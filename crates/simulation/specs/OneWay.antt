@@ -33,7 +33,7 @@ OpsAlone (loop a k t b) = ⊥
 
 -- such code is such blocks
 abbrev pub OneWayNested : Type 0
-OneWayNested = (S : ℕ → ℕ → Bool) (b : Block Bool) → Noted S b 0 → OneWay S 0 (flat b []) → OneWayBlock b
+OneWayNested = (S : ℕ → ℕ → Bool) (b : Block Bool) (p : ℕ) → Noted S b p → OneWay S p (flat b []) → OneWayBlock b
 
 -- and becomes ops alone
 abbrev pub OneWayOps : Type 0
