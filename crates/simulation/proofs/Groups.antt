@@ -20,7 +20,7 @@ pub record Apart (x : ℕ) : Type 0 where
   pub e27 : eqb x 27 ≡ false
   pub e28 : eqb x 28 ≡ false
 
-pub apart : (x : ℕ) → x < 25 → Apart x
+apart : (x : ℕ) → x < 25 → Apart x
 apart x h = record {
   e25 = ne_eqb x 25 (λ e. omega arith);
   e26 = ne_eqb x 26 (λ e. omega arith);

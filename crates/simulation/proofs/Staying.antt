@@ -30,7 +30,7 @@ not_below x y h = ne_eqb x y (λ e. omega arith)
 pub not_above : (x y : ℕ) → y < x → eqb x y ≡ false
 not_above x y h = ne_eqb x y (λ e. omega arith)
 
-pub quiet_same : (x : Words) → Quiet x x
+quiet_same : (x : Words) → Quiet x x
 quiet_same x = record { low = λ r h. refl; mark = refl; cells = λ c. refl }
 
 pub quiet_both : (x y z : Words) → Quiet x y → Quiet y z → Quiet x z
@@ -81,7 +81,7 @@ inverted_dead : (s : ℕ) (x : Words) → mask s x ≡ 0 → x.registers (16 + s
 inverted_dead zero x h g = absurd (omega arith)
 inverted_dead (suc n) x h g = simp (h, g, eq-eqb (16 + suc n) (16 + suc n) refl)
 
-pub mask_kept : (s : ℕ) (x y : Words) → Stays s x y → mask s y ≡ mask s x
+mask_kept : (s : ℕ) (x y : Words) → Stays s x y → mask s y ≡ mask s x
 mask_kept zero x y h = refl
 mask_kept (suc n) x y h = h.masks (16 + n) (omega arith) (omega arith)
 
