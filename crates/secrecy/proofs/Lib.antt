@@ -1,0 +1,6 @@
+pub mod Public
+pub mod Passing
+pub mod Carried
+pub mod Apart
+pub mod Beyond
+pub mod Alike

@@ -1,0 +1,4 @@
+pub mod Carried
+pub mod Alike
+pub mod Apart
+pub mod Beyond
