@@ -4,3 +4,7 @@ pub mod Carried
 pub mod Apart
 pub mod Beyond
 pub mod Alike
+pub mod Steps
+pub mod Groups
+pub mod Converted
+pub mod Unmasked

@@ -2,3 +2,5 @@ pub mod Carried
 pub mod Alike
 pub mod Apart
 pub mod Beyond
+pub mod Converted
+pub mod Unmasked
