@@ -8,3 +8,5 @@ pub mod Steps
 pub mod Groups
 pub mod Converted
 pub mod Unmasked
+pub mod Whole
+pub mod Seen

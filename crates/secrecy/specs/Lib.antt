@@ -4,3 +4,5 @@ pub mod Apart
 pub mod Beyond
 pub mod Converted
 pub mod Unmasked
+pub mod Whole
+pub mod Seen
