@@ -1,0 +1,12 @@
+pub mod Public
+pub mod Passing
+pub mod Carried
+pub mod Apart
+pub mod Beyond
+pub mod Alike
+pub mod Steps
+pub mod Groups
+pub mod Converted
+pub mod Unmasked
+pub mod Whole
+pub mod Seen
