@@ -3,6 +3,9 @@ pub mod Passing
 pub mod Carried
 pub mod Apart
 pub mod Beyond
+pub mod Same
+pub mod Meeting
+pub mod Ops
 pub mod Alike
 pub mod Steps
 pub mod Groups
@@ -10,3 +13,4 @@ pub mod Converted
 pub mod Unmasked
 pub mod Whole
 pub mod Seen
+pub mod Together

@@ -6,7 +6,7 @@ use Rattle.program.specs.Blocks.{Block, done, flat, depth, fin}
 use Rattle.machine.specs.States.{State}
 use Rattle.machine.specs.Machine.{Out, fine, fault, Conf, go, stop, land, steps}
 use Rattle.machine.specs.Nested.{exec}
-use Rattle.machine.specs.Most.{each_step, most_of}
+use Rattle.machine.specs.Most.{each_step}
 use Rattle.execution.proofs.Whole.{whole}
 use Rattle.counting.specs.Counting.{most_steps}
 use Rattle.counting.proofs.Sums.{sums_is}
@@ -24,20 +24,19 @@ end_land : (o : Out) (p : ℕ) → end_of (land o p []) ≡ o
 end_land (fine s) p = refl
 end_land (fault q s) p = refl
 
--- where a whole run ends, the blocks end
-reaches : {Note : Type 0} (tables : List Table) (b : Block Note) (x z : State) → depth b ≤ 8 → (n : ℕ) → most_of each_step b ≤ n
-    → steps tables (flat b []) n (go 0 [] x) ≡ go (length (flat b [])) [] z → exec tables b 0 x ≡ fine z
-reaches tables b x z d n h e =
+-- a whole run of the code, by its most steps, is the run of its blocks
+pub comes : {Note : Type 0} (tables : List Table) (code : List Instruction) (b : Block Note) (x : State)
+    → flat b [] ≡ code → depth b ≤ 8 → most_steps code ≤ 1000000 → steps tables code (most_steps code) (go 0 [] x) ≡ land (exec tables b 0 x) (length code) []
+comes tables code b x f d m =
+    let s = sums_is each_step b code f in
     let w = whole tables b x d in
     let few = w.few in
-    let c = w.comes n (omega arith) in
-    sym (end_land (exec tables b 0 x) (length (flat b []))) ∙ ap end_of (sym c ∙ e)
+    subst (λ c. steps tables c (most_steps code) (go 0 [] x) ≡ land (exec tables b 0 x) (length c) []) f (w.comes (most_steps code) (omega arith))
 
+-- where it ends, the blocks end
 ends : {Note : Type 0} (tables : List Table) (code : List Instruction) (b : Block Note) (x z : State)
     → flat b [] ≡ code → depth b ≤ 8 → most_steps code ≤ 1000000 → EndsIn tables code x z → exec tables b 0 x ≡ fine z
-ends tables code b x z f d m e =
-    let s = sums_is each_step b code f in
-    reaches tables b x z d (most_steps code) (omega arith) (subst (λ c. steps tables c (most_steps code) (go 0 [] x) ≡ go (length c) [] z) (sym f) e)
+ends tables code b x z f d m e = sym (end_land (exec tables b 0 x) (length code)) ∙ ap end_of (sym (comes tables code b x f d m) ∙ e)
 
 pub whole_runs_alike : {Note : Type 0} → WholeRunsAlike Note
 whole_runs_alike tables secret hidden code b A B x y z w f d m c h e g =

@@ -6,3 +6,4 @@ pub mod Converted
 pub mod Unmasked
 pub mod Whole
 pub mod Seen
+pub mod Together
