@@ -12,7 +12,7 @@ use Rattle.program.specs.declared.refusal.Reason.TheVariants.{SecretRepeat}
 use Rattle.program.specs.Openings.{past, around}
 use Rattle.program.specs.Blocks.{Block, done, one, if_then, if_else, loop, flat, fin}
 use Rattle.program.proofs.Around.{drop_next, around_next, around_none}
-use Rattle.machine.proofs.Around.{no_some}
+use Rattle.program.proofs.Refusals.{no_some}
 use Rattle.labels.specs.Kinds.{secrecy}
 use Rattle.labels.specs.Rules.{Each, Sub, leaves, mask_of, marked, Along, else_ways, Keeps, Solves}
 use Rattle.labels.specs.Passes.{opens}

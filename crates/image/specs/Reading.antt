@@ -1,5 +1,5 @@
 -- What reading answers.
-use Rattle.std.specs.Prelude.{◌≡◌, ℕ, ◌⊎◌, List, ◌++◌, length, take, drop, Some, None, Ok, Err, vec_items, Result}
+use Rattle.std.specs.Prelude.{◌≡◌, ℕ, ◌⊎◌, List, ◌++◌, length, drop, Some, None, Ok, Err, vec_items, Result}
 use Rattle.instructions.specs.declared.Instruction.{Instruction}
 use Rattle.program.specs.declared.program.Program.{Program}
 use Rattle.program.specs.Programs.{code_of}

@@ -11,7 +11,7 @@ use Rattle.counting.specs.Counting.{most_steps, mark_price, most_marks}
 use Rattle.conversion.specs.Sources.{result_by}
 use Rattle.conversion.specs.Trees.{Tree}
 use Rattle.simulation.specs.Simulation.{Follows}
-use Rattle.simulation.specs.OneWay.{OneWay}
+use Rattle.conversion.specs.OneWay.{OneWay}
 
 -- the most steps grow
 abbrev pub ResultStepsGrow : Type 0
