@@ -1,2 +1,4 @@
 pub mod Refused
 pub mod Images
+pub mod Words
+pub mod Sound
