@@ -7,6 +7,7 @@ use Rattle.memory.specs.Description.{Description, free}
 use Rattle.memory.specs.Accesses.{answered, left}
 use Rattle.machine.specs.States.{State, held}
 use Rattle.machine.specs.Machine.{Conf, go, stop}
+use Rattle.simulation.specs.Results.{FollowsRun}
 use Rattle.calls.specs.declared.Call.{Call}
 use Rattle.calls.specs.declared.Call.TheVariants.{Seat, Put, Arg, Go, Look, Open, Outcome, Clear}
 use Rattle.calls.specs.declared.Answer.TheVariants.{Word, Ended}
@@ -16,7 +17,7 @@ use Rattle.calls.specs.Calls.{Test, ◌⇒◌, refused, leaves, replies, told, a
 use Rattle.promises.specs.Plain.{Plain, plain, settled, takes, Says}
 use Rattle.promises.specs.Logs.{log, heard}
 use Rattle.promises.specs.Promises.{Follows, OfBytes, ImageOfBytes}
-use Rattle.promises.specs.Kept.{ImagesAccepted, Beside, result_run, RunsFollow}
+use Rattle.promises.specs.Kept.{ImagesAccepted, result_run, RunsFollow}
 use Rattle.promises.proofs.Refused.{differ, fails}
 use Rattle.promises.proofs.Words.{words_same}
 use Rattle.promises.proofs.Sound.{From, nothing, result, Sound, source_after, sound_leaves}
@@ -25,14 +26,14 @@ use Rattle.promises.proofs.Sound.{From, nothing, result, Sound, source_after, so
 abbrev pub plain_of : Option Seated → Bench → Plain
 plain_of o b = plain o b.entry b.memory.cells b.last
 
-settled_is : (p : Plain) (c : Conf) (z : State) → Beside c z → settled p c z ≡ plain p.source p.entry (words (length p.cells) z.cells) (Some (ending z))
+settled_is : (p : Plain) (c : Conf) (z : State) → FollowsRun c z → settled p c z ≡ plain p.source p.entry (words (length p.cells) z.cells) (Some (ending z))
 settled_is p (go q fs x) z (registers, flag, cells) =
     let ec : words (length p.cells) x.cells ≡ words (length p.cells) z.cells = ap (words (length p.cells)) (sym cells) in
     let er : words 16 x.registers ≡ words 16 z.registers = words_same 16 0 x.registers z.registers (λ r h. sym (registers r (omega arith))) in
     let ef : 0 ≡ z.registers 24 = sym flag in
     λ t. plain p.source p.entry (ec t) (Some (record { registers = er t; fault = ef t }))
 settled_is p (stop q x) z flag =
-    let ef : suc q ≡ z.registers 24 = sym flag in
+    let ef : suc q ≡ z.registers 24 = omega (arith, flag) in
     λ t. plain p.source p.entry (words (length p.cells) z.cells) (Some (record { registers = words 16 z.registers; fault = ef t }))
 
 same_cell : (hides : Bool) (size : ℕ) {o r : Option Seated} (t i : ℕ) → From hides size o r → first_cell (or_blank r).header.tables t + i ≡ first_cell (or_blank o).header.tables t + i

@@ -8,6 +8,7 @@ use Rattle.machine.specs.Machine.{length_of, Conf, go, stop, state_of}
 use Rattle.labels.specs.Sets.{bits, secret_tables}
 use Rattle.image.specs.Images.{image_refusal}
 use Rattle.conversion.specs.Sources.{IsSource}
+use Rattle.simulation.specs.Results.{FollowsRun}
 use Rattle.converter.specs.Converting.{place_refusal}
 use Rattle.run.specs.Run.{visits_of, marks_of}
 use Rattle.calls.specs.Benches.{Seated, comes, most_steps_of, most_marks_of}
@@ -25,12 +26,6 @@ abbrev pub ImagesAccepted : Type 0
 ImagesAccepted =
     (hides : Bool) (bs : List ℕ) → ((i : ℕ) → slice_index bs i < 256) → image_refusal bs ≡ None → unconverted hides (source_at bs) ≡ None → Accepted hides (source_at bs)
 
--- where a run of the source comes to its end, z has its registers and cells, and 0 in register 24;
--- where it comes to a fault, register 24 of z is one more than the place
-abbrev pub Beside : Conf → State → Type 0
-Beside (go p fs x) z = ((r : ℕ) → r < 16 → z.registers r ≡ x.registers r) × (z.registers 24 ≡ 0) × (z.cells ≡ x.cells)
-Beside (stop p x) z = z.registers 24 ≡ suc p
-
 -- where a run of what the source becomes comes to, from these entry registers and cells
 abbrev pub result_run : Seated → List ℕ → List ℕ → State
 result_run s entry cells = state_of (comes (converted s) entry cells)
@@ -38,7 +33,7 @@ result_run s entry cells = state_of (comes (converted s) entry cells)
 -- a run of the result follows the run of the source
 abbrev pub RunsFollow : Type 0
 RunsFollow =
-    (hides : Bool) (s : Seated) (entry cells : List ℕ) → Accepted hides s → length entry ≡ 16 → Beside (comes s entry cells) (result_run s entry cells)
+    (hides : Bool) (s : Seated) (entry cells : List ℕ) → Accepted hides s → length entry ≡ 16 → FollowsRun (comes s entry cells) (result_run s entry cells)
 
 -- entry registers and cells that are the same but for secret ones
 pub record SamePublic (s : Seated) (entry entry′ memory memory′ : List ℕ) : Type 0 where
