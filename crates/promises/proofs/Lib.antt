@@ -4,3 +4,6 @@ pub mod Words
 pub mod Sound
 pub mod Counts
 pub mod AsPlain
+pub mod Sets
+pub mod Agreeing
+pub mod Accepting
