@@ -7,3 +7,4 @@ pub mod AsPlain
 pub mod Sets
 pub mod Agreeing
 pub mod Accepting
+pub mod Secret
