@@ -8,3 +8,5 @@ pub mod Sets
 pub mod Agreeing
 pub mod Accepting
 pub mod Secret
+pub mod Ending
+pub mod Looking
