@@ -1,19 +1,8 @@
--- Sources with one way through: every if is secret, and nothing is repeated.
-use Rattle.std.specs.Prelude.{◌≡◌, ℕ, suc, Bool, true, List, [], ◌∷◌}
-use Rattle.instructions.specs.declared.Instruction.{Instruction}
-use Rattle.instructions.specs.declared.Instruction.TheVariants.{Do, If, Else, End, Repeat, Again}
+-- Nested blocks with one way through: every if is secret, and nothing is repeated.
+use Rattle.std.specs.Prelude.{◌≡◌, ℕ, Bool, true, []}
 use Rattle.program.specs.Blocks.{Block, done, one, if_then, if_else, loop, flat}
+use Rattle.conversion.specs.OneWay.{OneWay}
 use Rattle.conversion.specs.Trees.{Noted, converted}
-
--- from place p on, under the labels S
-abbrev pub OneWay : (ℕ → ℕ → Bool) → ℕ → List Instruction → Type 0
-OneWay S p [] = Unit {0}
-OneWay S p (Do op ∷ is) = OneWay S (suc p) is
-OneWay S p (If a ∷ is) = (S p a ≡ true) × OneWay S (suc p) is
-OneWay S p (Else ∷ is) = OneWay S (suc p) is
-OneWay S p (End ∷ is) = OneWay S (suc p) is
-OneWay S p (Repeat a k ∷ is) = ⊥
-OneWay S p (Again ∷ is) = OneWay S (suc p) is
 
 -- of nested blocks
 abbrev pub OneWayBlock : Block Bool → Type 0
