@@ -1,16 +1,14 @@
 -- Accepted calls that differ in secret words only keep two benches agreeing.
-use Rattle.std.proofs.Common.{◌≡◌, ℕ, ◌+◌, ◌<◌, ◌≤◌, Bool, true, false, not, ltb, leb, List, [], ◌∷◌, ◌++◌, length, set, Some, None, vec_items, Option, sym, refl, ap, ◌∙◌, subst, arith, length-set, zero-add}
+use Rattle.std.proofs.Common.{◌≡◌, ℕ, ◌+◌, ◌<◌, ◌≤◌, false, not, ltb, List, [], ◌∷◌, ◌++◌, length, set, Some, None, vec_items, Option, sym, refl, ap, ◌∙◌, subst, arith, length-set, zero-add}
 use Rattle.std.proofs.lemmas.Bool.{leb-false}
 use Rattle.program.specs.declared.refusal.Reason.TheVariants.{AlreadySeated, MemoryTooSmall, NoneSeated, NoSuchTable, IndexTooLarge, NoFreeMarks, NoSuchRegister, SecretTable, NoRoomForVisits, NoOutcome}
-use Rattle.program.specs.declared.refusal.Refusal.{Refusal}
 use Rattle.program.specs.Headers.{cells_of, first_cell}
 use Rattle.program.specs.Refusals.{or_else}
 use Rattle.header.specs.Layout.{header_at}
 use Rattle.image.specs.Images.{image_refusal}
 use Rattle.memory.specs.declared.Access.TheVariants.{Read, Write}
-use Rattle.memory.specs.Description.{Mark, Description, free}
+use Rattle.memory.specs.Description.{free}
 use Rattle.memory.specs.Laws.{Lawful}
-use Rattle.machine.specs.declared.visit.Visit.{Visit}
 use Rattle.machine.specs.States.{State, held}
 use Rattle.machine.specs.Machine.{length_of}
 use Rattle.labels.specs.Sets.{bits, secret_tables}
@@ -18,10 +16,10 @@ use Rattle.secrecy.proofs.Apart.{tables_within}
 use Rattle.calls.specs.declared.Call.{Call}
 use Rattle.calls.specs.declared.Call.TheVariants.{Seat, Put, Arg, Go, Look, Open, Outcome, Clear}
 use Rattle.calls.specs.declared.Answer.TheVariants.{Word}
-use Rattle.calls.specs.Benches.{Seated, Bench, or_blank, is_none, words, ending, most_steps_of, most_marks_of, program, none_seated, no_such_table, secret_table, outside, dear, gone, new_visits, new_marks}
+use Rattle.calls.specs.Benches.{Seated, or_blank, is_none, words, ending, most_steps_of, most_marks_of, program, none_seated, no_such_table, secret_table, outside, dear, gone, new_marks}
 use Rattle.calls.specs.Calls.{Test, ◌⇒◌, first_of, source_at, converted, unconverted, refused, counts}
 use Rattle.promises.specs.Promises.{SameBut, same, seats, puts, args}
-use Rattle.promises.specs.Kept.{Accepted, SamePublic, RunsAlike}
+use Rattle.promises.specs.Kept.{Accepted, RunsAlike}
 use Rattle.promises.proofs.Refused.{differ, none_left, fails, rest}
 use Rattle.promises.proofs.Words.{words_length, words_held}
 use Rattle.promises.proofs.Sound.{From, nothing, result, Sound}

@@ -1,7 +1,6 @@
 -- Two benches that agree on what is public.
-use Rattle.std.proofs.Common.{◌≡◌, ℕ, ◌+◌, ◌<◌, Bool, false, List, length, set, Some, None, Option, sym, refl, ap, ◌∙◌}
+use Rattle.std.proofs.Common.{◌≡◌, ℕ, ◌+◌, ◌<◌, false, List, length, set, Some, None, Option, sym, ap, ◌∙◌}
 use Rattle.memory.specs.Description.{Mark, Rules}
-use Rattle.machine.specs.declared.visit.Visit.{Visit}
 use Rattle.machine.specs.States.{held}
 use Rattle.machine.specs.Machine.{length_of}
 use Rattle.program.specs.Headers.{first_cell}

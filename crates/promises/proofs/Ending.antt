@@ -1,8 +1,7 @@
 -- A run of the result of an accepted source comes to its end, and follows the source's.
-use Rattle.std.proofs.Common.{◌≡◌, ℕ, ◌+◌, ◌<◌, ◌≤◌, Bool, List, [], length, sym, ap, ◌∙◌, subst, arith}
+use Rattle.std.proofs.Common.{◌≡◌, ℕ, Bool, List, length, sym, ap, subst, arith}
 use Rattle.std.proofs.lemmas.List.{get_or_past}
-use Rattle.instructions.specs.declared.Instruction.{Instruction}
-use Rattle.machine.specs.States.{State, held}
+use Rattle.machine.specs.States.{State}
 use Rattle.machine.specs.Machine.{state_of, first}
 use Rattle.labels.specs.Sets.{sets}
 use Rattle.plan.specs.Planned.{plan_of}

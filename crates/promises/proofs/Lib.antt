@@ -10,3 +10,7 @@ pub mod Accepting
 pub mod Secret
 pub mod Ending
 pub mod Looking
+pub mod InRange
+pub mod Counting
+pub mod Kept
+pub mod Promises

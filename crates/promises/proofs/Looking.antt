@@ -1,7 +1,6 @@
 -- Two runs of a result that start the same but for what is secret look alike.
-use Rattle.std.proofs.Common.{◌≡◌, ℕ, ◌+◌, ◌<◌, ◌≤◌, Bool, true, false, cond, ltb, List, [], ◌∷◌, ◌++◌, length, get_or, None, sym, refl, ap, ◌∙◌, subst, arith}
+use Rattle.std.proofs.Common.{◌≡◌, ℕ, ◌<◌, ◌≤◌, Bool, true, false, cond, ltb, List, [], ◌∷◌, ◌++◌, length, get_or, None, sym, refl, ap, subst, arith}
 use Rattle.std.proofs.lemmas.Bool.{ltb-true}
-use Rattle.instructions.specs.declared.Instruction.{Instruction}
 use Rattle.instructions.specs.declared.Instruction.TheVariants.{Again}
 use Rattle.program.specs.declared.header.Table.{Table}
 use Rattle.program.specs.Headers.{registers_of, cells_of, first_cell}
@@ -11,7 +10,7 @@ use Rattle.memory.specs.declared.Access.TheVariants.{Read, Write}
 use Rattle.memory.specs.Description.{Mark, Description, Shows}
 use Rattle.memory.specs.Laws.{Lawful}
 use Rattle.machine.specs.declared.visit.Visit.{Visit}
-use Rattle.machine.specs.States.{Event, visit, reads, writes, State}
+use Rattle.machine.specs.States.{Event, visit, reads, writes}
 use Rattle.machine.specs.Machine.{length_of, first}
 use Rattle.labels.specs.Kinds.{secrecy}
 use Rattle.labels.specs.Rules.{Solves}
@@ -24,7 +23,6 @@ use Rattle.conversion.proofs.Labelling.{labellings}
 use Rattle.secrecy.specs.Alike.{LooksLike, Alike}
 use Rattle.secrecy.specs.Alike as L
 use Rattle.secrecy.specs.Converted.{wide}
-use Rattle.secrecy.specs.Seen.{Blind}
 use Rattle.secrecy.proofs.Public.{publics}
 use Rattle.secrecy.proofs.Seen.{seen_same, offsets_hidden}
 use Rattle.secrecy.proofs.Whole.{converted_runs_alike}
@@ -102,6 +100,6 @@ runs_alike d s entry entry′ memory memory′ law ok small low low′ g =
     let t = tree_of s ok in
     let tables = s.header.tables in
     let r = converted_runs_alike tables (secret_tables tables) (hidden_by d.rules.hides) (labels s) (lengths tables) s.header.used t.block (converted s).code
-        (first entry memory) (first entry′ memory′) (result_run s entry memory) (result_run s entry′ memory′) t.fits (labelled s ok) t.result t.shallow ok.short
-        (begins s ok entry entry′ memory memory′ g) (ends s ok entry memory low) (ends s ok entry′ memory′ low′) in
+    (first entry memory) (first entry′ memory′) (result_run s entry memory) (result_run s entry′ memory′) t.fits (labelled s ok) t.result t.shallow ok.short
+    (begins s ok entry entry′ memory memory′ g) (ends s ok entry memory low) (ends s ok entry′ memory′ low′) in
     record { visits = visits_same d tables law small r.trace; marks = marks_same d tables law small r.trace; cells = r.cells }

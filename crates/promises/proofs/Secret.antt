@@ -1,5 +1,5 @@
 -- Secret words cannot be told apart.
-use Rattle.std.proofs.Common.{◌≡◌, ◌<◌, get_or, List, [], ◌∷◌, replicate, Ok, Some, None, Option, sym, refl, ap, ◌∙◌, subst}
+use Rattle.std.proofs.Common.{◌≡◌, ◌<◌, get_or, List, [], replicate, Ok, Some, None, Option, sym, refl, ap, ◌∙◌, subst}
 use Rattle.program.specs.declared.refusal.Refusal.{Refusal}
 use Rattle.memory.specs.Description.{Description}
 use Rattle.memory.specs.Accesses.{answered, left}

@@ -1,10 +1,10 @@
 -- What the promises need of one source that is accepted: its result's runs, beside its own and beside each other.
-use Rattle.std.specs.Prelude.{◌≡◌, ℕ, suc, ◌+◌, ◌<◌, ◌≤◌, Bool, false, List, length, None, slice_index}
+use Rattle.std.specs.Prelude.{◌≡◌, ℕ, ◌+◌, ◌<◌, ◌≤◌, Bool, false, List, length, None, slice_index}
 use Rattle.program.specs.Headers.{cells_of, first_cell}
 use Rattle.memory.specs.Description.{Description}
 use Rattle.memory.specs.Laws.{Lawful}
 use Rattle.machine.specs.States.{State, held}
-use Rattle.machine.specs.Machine.{length_of, Conf, go, stop, state_of}
+use Rattle.machine.specs.Machine.{length_of, state_of}
 use Rattle.labels.specs.Sets.{bits, secret_tables}
 use Rattle.image.specs.Images.{image_refusal}
 use Rattle.conversion.specs.Sources.{IsSource}
