@@ -12,7 +12,7 @@ use Rattle.calls.specs.Benches.{Seated, Bench, bench, is_none}
 use Rattle.calls.specs.Calls.{leaves, replies, visits}
 use Rattle.promises.specs.Promises.{tells}
 use Rattle.promises.specs.Kept.{SamePublic}
-use Rattle.promises.proofs.Sets.{set_both}
+use Rattle.promises.proofs.BothSet.{set_both}
 
 -- what the two have in common
 pub record Shared : Type 0 where

@@ -26,7 +26,7 @@ use Rattle.calls.specs.Calls.{converted}
 use Rattle.promises.specs.Promises.{Straight}
 use Rattle.promises.specs.Kept.{Accepted, result_run, RunsCounted}
 use Rattle.promises.proofs.InRange.{InRange, in_range}
-use Rattle.promises.proofs.Ending.{labels, tree_of, ends}
+use Rattle.promises.proofs.Following.{labels, tree_of, ends}
 
 -- each visit is a step
 steps_weigh : (t : List Event) → length (visits_of t) ≡ weigh each_step t

@@ -4,16 +4,17 @@ use Rattle.std.proofs.lemmas.Bool.{ltb-false}
 use Rattle.program.specs.declared.refusal.Reason.TheVariants.{NoneSeated, NoRoomForVisits, NoFreeMarks}
 use Rattle.program.specs.declared.refusal.Refusal.{Refusal}
 use Rattle.memory.specs.Description.{Description, Rules, free}
-use Rattle.memory.specs.Accesses.{answered, left}
+use Rattle.memory.specs.Accesses.{left}
 use Rattle.memory.specs.Laws.{Lawful}
 use Rattle.calls.specs.declared.Call.{Call}
 use Rattle.calls.specs.declared.Call.TheVariants.{Seat, Put, Arg, Go, Look, Open, Outcome, Clear}
 use Rattle.calls.specs.Benches.{Seated, Bench, bench, or_blank, is_none, most_steps_of, most_marks_of, program, none_seated, new_visits, new_marks}
-use Rattle.calls.specs.Calls.{Test, ◌⇒◌, converted, refused, leaves, replies, visits}
-use Rattle.promises.specs.Logs.{Entry, log}
+use Rattle.calls.specs.Calls.{Test, ◌⇒◌, converted, refused, leaves, replies}
+use Rattle.promises.specs.Logs.{log}
 use Rattle.promises.specs.Promises.{Most, CountedBy, CountedGo, most_after, Tallies, OfBytes, ImageOfBytes}
 use Rattle.promises.specs.Kept.{ImagesAccepted, RunsCounted}
 use Rattle.promises.proofs.Refused.{differ, fails, rest}
+use Rattle.promises.proofs.Logged.{logged}
 use Rattle.promises.proofs.Sound.{From, nothing, result, Sound, source_after, sound_leaves}
 
 -- what the seat of this source answered
@@ -24,14 +25,10 @@ most_by rules (Some s) = Some (record { source = s; steps = most_steps_of (conve
 abbrev pub most : Option Seated → Bench → Option Most
 most o b = most_by b.memory.rules o
 
--- what the log has of a call, by why it was refused
-abbrev entered : Call → Bench → Option Refusal → Entry
-entered c b why = record { call = c; answer = answered why (replies c b); visits = left why [] (visits c b); seen = (left why b (leaves c b)).memory.seen }
-
 module _ (images : ImagesAccepted) (counted : RunsCounted) where
   go_counted : (room : ℕ) (d : Description) {o r : Option Seated} (entry : List ℕ) (last : _) → Lawful d → length entry ≡ 16 → From d.rules.hides (length d.cells) o r → is_none r ≡ false
       → ltb (free d) (most_marks_of d.rules (or_blank r)) ≡ false
-      → CountedBy (most_by d.rules o) d.seen (replies (Go room) (bench d r entry last)) (entered (Go room) (bench d r entry last) None)
+      → CountedBy (most_by d.rules o) d.seen (replies (Go room) (bench d r entry last)) (logged (Go room) (bench d r entry last) None)
   go_counted room d entry last law low nothing k h = differ k
   go_counted room d entry last law low (result s ok small) k h =
       let b = bench d (Some (converted s)) entry last in
@@ -51,7 +48,7 @@ module _ (images : ImagesAccepted) (counted : RunsCounted) where
         },
       )
 
-  call_counted : (c : Call) (o : Option Seated) (b : Bench) → Sound o b → refused c b ≡ None → CountedGo (most o b) b.memory.seen (entered c b None) c (replies c b)
+  call_counted : (c : Call) (o : Option Seated) (b : Bench) → Sound o b → refused c b ≡ None → CountedGo (most o b) b.memory.seen (logged c b None) c (replies c b)
   call_counted (Seat image) o b s h = tt
   call_counted (Put t i w) o b s h = tt
   call_counted (Arg r w) o b s h = tt
@@ -78,7 +75,7 @@ module _ (images : ImagesAccepted) (counted : RunsCounted) where
 
   by_refusal : (c : Call) (cs : List Call) (o : Option Seated) (b : Bench) (why : Option Refusal) → refused c b ≡ why → ImageOfBytes c → Sound o b
       → ((p : Option Seated) (x : Bench) → Sound p x → Tallies (most p x) x.memory.seen (log cs x))
-      → Tallies (most o b) b.memory.seen (entered c b why ∷ log cs (left why b (leaves c b)))
+      → Tallies (most o b) b.memory.seen (logged c b why ∷ log cs (left why b (leaves c b)))
   by_refusal c cs o b (Some e) h small s later = later o b s
   by_refusal c cs o b None h small s later = (
     call_counted c o b s h,

@@ -30,7 +30,7 @@ use Rattle.run.specs.Run.{visit_at, visits_of, marks_of}
 use Rattle.calls.specs.Benches.{Seated}
 use Rattle.calls.specs.Calls.{converted}
 use Rattle.promises.specs.Kept.{Accepted, result_run, SamePublic, RunsAlike}
-use Rattle.promises.proofs.Ending.{labels, tree_of, ends}
+use Rattle.promises.proofs.Following.{labels, tree_of, ends}
 
 wide_false : (A : ℕ → Bool) (r : ℕ) (b : Bool) → ltb r 16 ≡ b → cond b (A r) true ≡ false → (r < 16) × (A r ≡ false)
 wide_false A r true h e = (ltb-true r 16 h, e)

@@ -4,7 +4,7 @@ use Rattle.calls.specs.Benches.{new}
 use Rattle.promises.specs.Promises.{Promised}
 use Rattle.promises.proofs.Kept.{kept}
 use Rattle.promises.proofs.Sound.{sound_new}
-use Rattle.promises.proofs.AsPlain.{follows}
+use Rattle.promises.proofs.Plain.{follows}
 use Rattle.promises.proofs.Secret.{each, twins_new}
 use Rattle.promises.proofs.Counts.{tallies}
 

@@ -1,5 +1,5 @@
 -- What is known where nothing was refused.
-use Rattle.std.proofs.Common.{◌≡◌, ℕ, Bool, true, false, List, ◌∷◌, Some, None, Option, refl, arith}
+use Rattle.std.proofs.Common.{◌≡◌, ℕ, Bool, true, false, List, ◌∷◌, Some, None, Option, refl, true≢false, arith}
 use Rattle.program.specs.declared.refusal.Reason.{Reason}
 use Rattle.program.specs.declared.refusal.Refusal.{Refusal}
 use Rattle.program.specs.Refusals.{unless, or_else}
@@ -9,7 +9,7 @@ pub never : {X : Type 0} {e : Refusal} → ◌≡◌ {A = Option Refusal} (Some 
 never h = let z : ◌≡◌ {A = ℕ} 0 1 = cc in absurd (omega arith)
 
 pub differ : {X : Type 0} → true ≡ false → X
-differ h = let z : ◌≡◌ {A = ℕ} 0 1 = cc in absurd (omega arith)
+differ h = absurd (true≢false h)
 
 pub none_left : (x y : Option Refusal) → or_else x y ≡ None → x ≡ None
 none_left None y h = refl

@@ -2,26 +2,23 @@
 use Rattle.std.proofs.Common.{◌≡◌, ◌<◌, get_or, List, [], replicate, Ok, Some, None, Option, sym, refl, ap, ◌∙◌, subst}
 use Rattle.program.specs.declared.refusal.Refusal.{Refusal}
 use Rattle.memory.specs.Description.{Description}
-use Rattle.memory.specs.Accesses.{answered, left}
+use Rattle.memory.specs.Accesses.{left}
 use Rattle.calls.specs.declared.Call.{Call}
 use Rattle.calls.specs.Benches.{Seated, Bench, new}
-use Rattle.calls.specs.Calls.{refused, leaves, replies, visits, after}
+use Rattle.calls.specs.Calls.{refused, leaves, after}
 use Rattle.promises.specs.Logs.{Entry, log}
 use Rattle.promises.specs.Promises.{ImageOfBytes, OfBytes, SameBut, same, seats, puts, args, Alike, LooksLike, Each}
 use Rattle.promises.specs.Promises as P
 use Rattle.promises.specs.Kept.{ImagesAccepted, RunsAlike}
+use Rattle.promises.proofs.Logged.{logged}
 use Rattle.promises.proofs.Sound.{Sound, source_after, sound_after}
 use Rattle.promises.proofs.Agreeing.{Shared, Own, own, of, Agree}
 use Rattle.promises.proofs.Accepting.{same_refusal, accepted}
 
--- what the log has of a call, by why it was refused
-abbrev entered : Call → Bench → Option Refusal → Entry
-entered c b why = record { call = c; answer = answered why (replies c b); visits = left why [] (visits c b); seen = (left why b (leaves c b)).memory.seen }
-
 abbrev entry : Call → Bench → Entry
-entry c b = entered c b (refused c b)
+entry c b = logged c b (refused c b)
 
--- two calls that are refused alike leave two benches that agree, and look alike
+-- two calls, both refused or both accepted, leave two benches that agree, and look alike
 pub record Stepped (x y : Call) (a : Shared) (o p : Own) (why : Option Refusal) : Type 0 where
   pub then : Shared
   pub mine : Own
@@ -29,16 +26,16 @@ pub record Stepped (x y : Call) (a : Shared) (o p : Own) (why : Option Refusal) 
   pub one : left why (of a o) (leaves x (of a o)) ≡ of then mine
   pub two : left why (of a p) (leaves y (of a p)) ≡ of then other
   pub agree : Agree then mine other
-  pub looks : LooksLike (entered x (of a o) why) (entered y (of a p) why)
+  pub looks : LooksLike (logged x (of a o) why) (logged y (of a p) why)
 
 -- two benches that agree
 pub record Twins (b c : Bench) : Type 0 where
-  pub a : Shared
-  pub o : Own
-  pub p : Own
-  pub one : b ≡ of a o
-  pub two : c ≡ of a p
-  pub agree : Agree a o p
+  pub shared : Shared
+  pub mine : Own
+  pub other : Own
+  pub one : b ≡ of shared mine
+  pub two : c ≡ of shared other
+  pub agree : Agree shared mine other
 
 -- the image of the second call is the image of the first
 same_bytes : {b : Bench} {x y : Call} → SameBut b x y → ImageOfBytes x → ImageOfBytes y
@@ -75,11 +72,11 @@ module _ (images : ImagesAccepted) (alike : RunsAlike) where
       let why = refused x (of a o) in
       let q : why ≡ refused y (of a p) = same_refusal a o p h g in
       let n = stepped a o p why h g u v s z refl in
-      let t : Twins (after x (of a o)) (left why (of a p) (leaves y (of a p))) = record { a = n.then; o = n.mine; p = n.other; one = n.one; two = n.two; agree = n.agree } in
-      (subst (λ r. Twins (after x (of a o)) (left r (of a p) (leaves y (of a p)))) q t, subst (λ r. LooksLike (entry x (of a o)) (entered y (of a p) r)) q n.looks)
+      let t : Twins (after x (of a o)) (left why (of a p) (leaves y (of a p))) = record { shared = n.then; mine = n.mine; other = n.other; one = n.one; two = n.two; agree = n.agree } in
+      (subst (λ r. Twins (after x (of a o)) (left r (of a p) (leaves y (of a p)))) q t, subst (λ r. LooksLike (entry x (of a o)) (logged y (of a p) r)) q n.looks)
 
   steps_twins : (x y : Call) (b c : Bench) → Twins b c → Steps x y b c
-  steps_twins x y b c t = subst (λ u. Steps x y u c) (sym t.one) (subst (λ v. Steps x y (of t.a t.o) v) (sym t.two) (steps_of x y t.a t.o t.p t.agree))
+  steps_twins x y b c t = subst (λ u. Steps x y u c) (sym t.one) (subst (λ v. Steps x y (of t.shared t.mine) v) (sym t.two) (steps_of x y t.shared t.mine t.other t.agree))
 
   pub each : {b : Bench} (c : Bench) {xs ys : List Call} → Alike b xs ys → OfBytes xs → Twins b c → (u v : Option Seated) → Sound u b → Sound v c → Each (log xs b) (log ys c)
   each c (P.Alike.none b) small t u v s z = P.Each.none
@@ -92,4 +89,4 @@ pub twins_new : (d : Description) → Twins (new d) (new d)
 twins_new d =
     let a : Shared = record { rules = d.rules; seen = []; seated = None } in
     let o = own d.cells (replicate 16 0) None in
-    record { a = a; o = o; p = o; one = refl; two = refl; agree = record { size = refl; lasts = refl; public = (refl, refl) } }
+    record { shared = a; mine = o; other = o; one = refl; two = refl; agree = record { size = refl; lasts = refl; public = (refl, refl) } }
