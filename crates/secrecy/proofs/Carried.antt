@@ -46,15 +46,15 @@ module _ (A B : ℕ → Bool) (h : Public A B) where
         store_passing secret hidden A false d a t (λ f. p.0 (secret_up a f)) (λ f. let q = p.1 f in (refl, h d q.1, h a q.2))
 
 pub weakens : {Note : Type 0} → Weakens Note
-weakens secret hidden done A A′ B B′ f g c = sub_trans A′ B B′ (sub_trans A′ A B f c) g
-weakens secret hidden (one op b) A A′ B B′ f g c =
-    (wrong_public A′ A (publics A′ A f) secret hidden op c.0, weakens secret hidden b (leaves secrecy secret false op A) (leaves secrecy secret false op A′) B B′ (sub _ _ (leaves_public A′ A (publics A′ A f) secret op)) g c.1)
-weakens secret hidden (if_then n a t b) A A′ B B′ f g c =
+weakens secret hidden done A A' B B' f g c = sub_trans A' B B' (sub_trans A' A B f c) g
+weakens secret hidden (one op b) A A' B B' f g c =
+    (wrong_public A' A (publics A' A f) secret hidden op c.0, weakens secret hidden b (leaves secrecy secret false op A) (leaves secrecy secret false op A') B B' (sub _ _ (leaves_public A' A (publics A' A f) secret op)) g c.1)
+weakens secret hidden (if_then n a t b) A A' B B' f g c =
     let d = c.1 in
-    (publics A′ A f a c.0, (d.0, weakens secret hidden t A A′ d.0 d.0 f (sub_refl d.0) d.1, sub_trans A′ A d.0 f d.2, weakens secret hidden b d.0 d.0 B B′ (sub_refl d.0) g d.3))
-weakens secret hidden (if_else n a t e b) A A′ B B′ f g c =
+    (publics A' A f a c.0, (d.0, weakens secret hidden t A A' d.0 d.0 f (sub_refl d.0) d.1, sub_trans A' A d.0 f d.2, weakens secret hidden b d.0 d.0 B B' (sub_refl d.0) g d.3))
+weakens secret hidden (if_else n a t e b) A A' B B' f g c =
     let d = c.1 in
-    (publics A′ A f a c.0, (d.0, weakens secret hidden t A A′ d.0 d.0 f (sub_refl d.0) d.1, weakens secret hidden e A A′ d.0 d.0 f (sub_refl d.0) d.2, weakens secret hidden b d.0 d.0 B B′ (sub_refl d.0) g d.3))
-weakens secret hidden (loop a k t b) A A′ B B′ f g c =
+    (publics A' A f a c.0, (d.0, weakens secret hidden t A A' d.0 d.0 f (sub_refl d.0) d.1, weakens secret hidden e A A' d.0 d.0 f (sub_refl d.0) d.2, weakens secret hidden b d.0 d.0 B B' (sub_refl d.0) g d.3))
+weakens secret hidden (loop a k t b) A A' B B' f g c =
     let d = c.1 in
-    (publics A′ A f a c.0, (d.0, sub_trans A′ A d.0 f d.1, d.2, weakens secret hidden b d.0 d.0 B B′ (sub_refl d.0) g d.3))
+    (publics A' A f a c.0, (d.0, sub_trans A' A d.0 f d.1, d.2, weakens secret hidden b d.0 d.0 B B' (sub_refl d.0) g d.3))

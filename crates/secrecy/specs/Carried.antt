@@ -20,5 +20,5 @@ module _ {Note : Type 0} (secret hidden : ℕ → Bool) where
 -- what is secret may be less on arriving, and more on leaving
 abbrev pub Weakens : Type 0 → Type 0
 Weakens Note =
-    (secret hidden : ℕ → Bool) (b : Block Note) (A A′ B B′ : ℕ → Bool)
-    → Sub secrecy A′ A → Sub secrecy B B′ → Carried secret hidden A b B → Carried secret hidden A′ b B′
+    (secret hidden : ℕ → Bool) (b : Block Note) (A A' B B' : ℕ → Bool)
+    → Sub secrecy A' A → Sub secrecy B B' → Carried secret hidden A b B → Carried secret hidden A' b B'

@@ -9,6 +9,7 @@ use Rattle.secrecy.specs.Carried.{Carried}
 abbrev pub wide : (ℕ → Bool) → ℕ → Bool
 wide A r = cond (nat_lt r 16) (A r) true
 
+-- from the labels that arrive at the first place to those that arrive at the end
 abbrev pub ConvertedCarries : Type 0
 ConvertedCarries =
     (secret hidden : ℕ → Bool) (S : ℕ → ℕ → Bool) (long : ℕ → ℕ) (used : ℕ) (b : Block Bool) → FitBlock 16 used b

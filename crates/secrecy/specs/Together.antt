@@ -32,12 +32,14 @@ module _ (tables : List Table) (secret B : ℕ → Bool) where
   Together (stop p z) (go q gs w) = ⊥
   Together (stop p z) (stop q w) = (p ≡ q) × Alike tables secret bare all_secret z w
 
+-- two runs of a block that carries A to B with no table hidden, from states that agree under A
 abbrev pub RunsTogether : Type 0 → Type 0
 RunsTogether Note =
     (tables : List Table) (secret : ℕ → Bool) (b : Block Note) (A B : ℕ → Bool) (p q : ℕ) (fs : List OpenRepeat) (x y : State)
     → Carried secret bare A b B → Alike tables secret bare A x y
     → Together tables secret B (land (exec tables b p x) q fs) (land (exec tables b p y) q fs)
 
+-- and two whole runs of a program of such blocks
 abbrev pub WholeRunsTogether : Type 0 → Type 0
 WholeRunsTogether Note =
     (tables : List Table) (secret : ℕ → Bool) (code : List Instruction) (b : Block Note) (A B : ℕ → Bool) (x y : State)
