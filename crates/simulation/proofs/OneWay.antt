@@ -5,8 +5,8 @@ use Rattle.instructions.specs.declared.Instruction.{Instruction}
 use Rattle.instructions.specs.declared.Instruction.TheVariants.{Else, End}
 use Rattle.program.specs.Blocks.{Block, done, one, if_then, if_else, loop, flat, fin}
 use Rattle.groups.specs.Groups.{mask_at, op_group, if_group, else_group}
-use Rattle.conversion.specs.Trees.{Noted, ops, converted}
 use Rattle.conversion.specs.OneWay.{OneWay}
+use Rattle.conversion.specs.Trees.{Noted, ops, converted}
 use Rattle.simulation.specs.OneWay.{OneWayBlock, OpsAlone, OneWayNested, OneWayOps}
 
 -- a block in front of more code

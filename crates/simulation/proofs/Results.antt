@@ -16,9 +16,9 @@ use Rattle.counting.specs.Counting.{sums, most_steps, mark_price}
 use Rattle.counting.proofs.Sums.{sums_is}
 use Rattle.groups.specs.Groups.{lengths}
 use Rattle.conversion.specs.Sources.{result_by}
+use Rattle.conversion.specs.OneWay.{OneWay}
 use Rattle.conversion.specs.Trees.{Tree, converted}
 use Rattle.simulation.specs.Simulation.{Follows, Roomy}
-use Rattle.conversion.specs.OneWay.{OneWay}
 use Rattle.simulation.specs.Results.{FollowsRun, ResultStepsGrow, ResultFollows, ResultCountsMost}
 use Rattle.simulation.proofs.Simulation.{simulates}
 use Rattle.simulation.proofs.OneWay.{one_way_nested}

@@ -1,10 +1,10 @@
--- Blocks of a source with one way through, and what they become.
+-- Nested blocks with one way through: every if is secret, and nothing is repeated.
 use Rattle.std.specs.Prelude.{◌≡◌, ℕ, Bool, true, []}
 use Rattle.program.specs.Blocks.{Block, done, one, if_then, if_else, loop, flat}
 use Rattle.conversion.specs.OneWay.{OneWay}
 use Rattle.conversion.specs.Trees.{Noted, converted}
 
--- every if is secret, and nothing is repeated
+-- of nested blocks
 abbrev pub OneWayBlock : Block Bool → Type 0
 OneWayBlock done = Unit {0}
 OneWayBlock (one op b) = OneWayBlock b

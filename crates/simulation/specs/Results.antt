@@ -9,9 +9,9 @@ use Rattle.machine.specs.Machine.{fine, fault, Conf, go, stop, steps, count}
 use Rattle.machine.specs.Most.{weigh}
 use Rattle.counting.specs.Counting.{most_steps, mark_price, most_marks}
 use Rattle.conversion.specs.Sources.{result_by}
+use Rattle.conversion.specs.OneWay.{OneWay}
 use Rattle.conversion.specs.Trees.{Tree}
 use Rattle.simulation.specs.Simulation.{Follows}
-use Rattle.conversion.specs.OneWay.{OneWay}
 
 -- the most steps grow
 abbrev pub ResultStepsGrow : Type 0
