@@ -6,7 +6,6 @@ use Rattle.instructions.specs.declared.Op.{Op}
 use Rattle.instructions.specs.declared.Op.TheVariants.{Set, Pick, Load, Store}
 use Rattle.instructions.specs.declared.Instruction.{Instruction}
 use Rattle.instructions.specs.declared.Instruction.TheVariants.{Do, If, Else, End, Repeat, Again}
-use Rattle.program.specs.declared.header.Header.{Header}
 use Rattle.program.specs.declared.header.Table.{Table}
 use Rattle.program.specs.declared.program.Program.{Program}
 use Rattle.program.specs.Headers.{no_table, first_cell}
@@ -260,9 +259,9 @@ reads_nested tables code entry cells t h =
     (t.0, t.1, comes tables code t.0 t.1 t.2 (first entry cells) 0 (most_steps code) (omega arith))
 
 -- where a run is not over, and where it is
-module _ (s : Program) {h : Header} {p : ℕ} (e : h ≡ s.header) where
-  pub not_over : false ≡ leb h.count p → p < length (code_of s)
-  not_over f = omega (arith, leb-false h.count p (sym f), code_long s, ap (λ x. x.count) e)
+module _ (s : Program) {n p : ℕ} (e : n ≡ s.header.count) where
+  pub not_over : false ≡ leb n p → p < length (code_of s)
+  not_over f = omega (arith, leb-false n p (sym f), code_long s, e)
 
-  pub is_over : true ≡ leb h.count p → length (code_of s) ≤ p
-  is_over f = omega (arith, leb-true h.count p (sym f), code_long s, ap (λ x. x.count) e)
+  pub is_over : true ≡ leb n p → length (code_of s) ≤ p
+  is_over f = omega (arith, leb-true n p (sym f), code_long s, e)

@@ -13,7 +13,7 @@ pub invariant_of-labelled : goal.invariant_of-labelled
 invariant_of-labelled c =
     let m = c.args.source.now in
     let kind = source_there m.header.kind _ c.in_ok-plan.ensures.answer in
-    let n : c.header-header.result.count + 1 ≡ length (code_of c.args.source.now) + 1 = omega (arith, code_long m, ap (λ h. h.count) c.header-header.ensures) in
+    let n : c.from.result + 1 ≡ length (code_of c.args.source.now) + 1 = omega (arith, code_long m, c.from.ensures, ap (λ h. h.count) c.header-header.ensures) in
     let el = plan_there m kind _ _ c.plan.new.list n c.in_ok-plan.ensures.list.0 in
     let ec = c.code.ensures in
     record {
@@ -26,7 +26,7 @@ pub size_fits-requires : goal.size_fits-requires
 size_fits-requires c =
     let m = c.args.source.now in
     let kind = source_there m.header.kind _ c.in_ok-plan.ensures.answer in
-    let n : c.header-header.result.count + 1 ≡ length (code_of c.args.source.now) + 1 = omega (arith, code_long m, ap (λ h. h.count) c.header-header.ensures) in
+    let n : c.from.result + 1 ≡ length (code_of c.args.source.now) + 1 = omega (arith, code_long m, c.from.ensures, ap (λ h. h.count) c.header-header.ensures) in
     let el = plan_there m kind _ _ c.plan.new.list n c.in_ok-plan.ensures.list.0 in
     let eh = c.header-header.ensures in
     let ec = c.code.ensures in

@@ -21,12 +21,12 @@ nest s = nested_of (code_of s) (code_pairs s)
 pub step-moved-requires-clause-ready : goal.step-moved-requires-clause-ready
 step-moved-requires-clause-ready g c =
     let s = c.args.program.now in
-    let b = not_over s c.header-count.ensures c.turns-test.ensures.value in
+    let b = not_over s (c.from-count.ensures ∙ ap (λ h. h.count) c.header.ensures) c.turns-test.ensures.value in
     turn_ready (nest s) (g.met.M.Memory.lawful c.args.memory.now) c.requires c.turns.invariant s.eight c.new-layout.result.windows c.new-layout.ensures.windows b c.at.ensures.here (fits_eight s.header.used c.at.result s.few c.at.ensures.fits)
 
 -- the place is before the end
 before : (g : Over) (c : After-step-moved g) → c.turns.place < length (code_of c.args.program.now)
-before g c = not_over c.args.program.now c.header-count.ensures c.turns-test.ensures.value
+before g c = not_over c.args.program.now (c.from-count.ensures ∙ ap (λ h. h.count) c.header.ensures) c.turns-test.ensures.value
 
 -- fewer visits than there is room for
 room : (g : Over) (c : After-step-moved g) → c.turns.steps < length c.args.visits.now
@@ -90,6 +90,6 @@ returns g c =
     let s = c.args.program.now in
     let law = g.met.M.Memory.lawful c.args.memory.now in
     let d = g.M.Memory.model c.turns.memory in
-    let e = turn_end (nest s) law c.requires c.turns.invariant (is_over s c.header-count.ensures c.turns-test.ensures.value) in
+    let e = turn_end (nest s) law c.requires c.turns.invariant (is_over s (c.from-count.ensures ∙ ap (λ h. h.count) c.header.ensures) c.turns-test.ensures.value) in
     outcome (nest s) law c.requires _ c.turns.invariant.kept (ap state_of e)
     c.turns.invariant.wide (ap (λ n. n - c.marks-before.result) c.marks-2.ensures ∙ ap (λ n. length d.seen - n) c.marks-before.ensures) (sym (ap fault_of e))

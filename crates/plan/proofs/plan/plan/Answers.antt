@@ -36,7 +36,7 @@ returns c =
     (subst (λ x. Smallest secrecy (secret_tables c.header-header.result.tables) (bits c.header-header.result.secret_entry) x (sets c.settle.new.list)) c.code.ensures c.settle.ensures) in
     let small : (k : ℕ) → get_or c.settle.new.list k 0 < 65536 = small_front c.settle.new.list _ (λ k. (c.type_inv.list k).fits) in
     let e : c.settle.new.list ≡ plan_of h code = is_plan h code c.settle.new.list good m.narrow (long ∙ ap (λ x. x + 1) (sym n)) small least in
-    let count : c.header-header.result.count + 1 ≡ length code + 1 = omega (arith, n, ap (λ x. x.count) same) in
+    let count : c.from-needed.result + 1 ≡ length code + 1 = omega (arith, n, c.from-needed.ensures, ap (λ x. x.count) same) in
     record {
       answer = search rules;
       list = (
