@@ -7,3 +7,4 @@ pub mod Left
 pub mod Results
 pub mod Short
 mod Within
+pub mod Keeping

@@ -1,4 +1,4 @@
--- What holds of every converted program.
+-- What holds of every converted program: what is in it, and what its runs leave and show.
 use Rattle.std.specs.Prelude.{◌≡◌, ℕ, suc, ◌≤◌, Bool, cond, List, [], ◌∷◌, ◌++◌, length, Ok, Err, Result}
 use Rattle.instructions.specs.declared.Instruction.{Instruction}
 use Rattle.instructions.specs.declared.Instruction.TheVariants.{Do, If, Else, End, Repeat, Again}
@@ -7,11 +7,21 @@ use Rattle.program.specs.declared.handed_back.HandedBack.{HandedBack}
 use Rattle.program.specs.declared.opening.Marked.{Marked}
 use Rattle.program.specs.declared.program.Program.{Program}
 use Rattle.program.specs.Blocks.{Nested}
+use Rattle.program.specs.Programs.{code_of}
 use Rattle.labels.specs.Kinds.{secrecy}
 use Rattle.labels.specs.Passes.{opens}
-use Rattle.labels.specs.Sets.{sets}
+use Rattle.labels.specs.Sets.{sets, secret_tables}
 use Rattle.plan.specs.Planned.{plan_of}
-use Rattle.program.specs.Programs.{code_of}
+use Rattle.machine.specs.States.{State}
+use Rattle.machine.specs.Machine.{go, steps}
+use Rattle.counting.specs.Counting.{most_steps}
+use Rattle.conversion.specs.Refusing.{hidden_by}
+use Rattle.simulation.specs.Results.{FollowsRun}
+use Rattle.secrecy.specs.Alike.{Alike}
+use Rattle.secrecy.specs.Converted.{wide}
+use Rattle.secrecy.specs.Unmasked.{UnmaskedCarries}
+use Rattle.secrecy.specs.Whole.{EndsIn, WholeRunsAlike}
+use Rattle.secrecy.specs.Together.{WholeRunsTogether}
 
 -- the brackets among instructions
 abbrev pub brackets : List Instruction → List Instruction
@@ -50,3 +60,36 @@ pub record Straight (source p : Program) : Type 0 where
 abbrev pub Straightens : Program → Result Program HandedBack → Type 0
 Straightens source (Ok p) = Straight source p
 Straightens source (Err back) = Unit {0}
+
+-- the secret registers on arriving at each place of the source, by its smallest labels
+abbrev pub labels : Program → ℕ → ℕ → Bool
+labels source = sets (plan_of source.header (code_of source))
+
+-- two states agree on the public cells, and on the registers of a source that are not in A
+abbrev pub SamePublic : Program → Bool → (ℕ → Bool) → State → State → Type 0
+SamePublic source hides A x y = Alike source.header.tables (secret_tables source.header.tables) (hidden_by hides) (wide A) x y
+
+-- runs of a converted program, over a memory that hides or one that does not, beside runs of its source
+pub record Keeps (source : Program) (hides : Bool) (p : Program) : Type 0 where
+  -- it has no fewer most steps than its source
+  pub most : most_steps (code_of source) ≤ most_steps (code_of p)
+  -- it never faults: a run comes to its end, with what the source's run left, or with the place of its fault
+  pub follows : (x : State) → x.registers 24 ≡ 0
+      → (z : State) × EndsIn source.header.tables (code_of p) x z
+      × FollowsRun (steps source.header.tables (code_of source) (most_steps (code_of source)) (go 0 [] x)) z
+  -- two runs that begin with the same public registers and cells make the same visits and the same accesses, offsets
+  -- of hidden tables aside, and leave the same public cells
+  pub alike : (x y z w : State) → SamePublic source hides (labels source 0) x y
+      → EndsIn source.header.tables (code_of p) x z → EndsIn source.header.tables (code_of p) y w
+      → SamePublic source hides (labels source (length (code_of source))) z w
+
+abbrev pub KeepsWhat : Program → Bool → Result Program HandedBack → Type 0
+KeepsWhat source hides (Ok p) = Keeps source hides p
+KeepsWhat source hides (Err back) = Unit {0}
+
+-- of labelled programs of any maker, with no secret if and no repeat by a secret register: their labels are carried
+-- along, two runs that reach their ends look alike, and with no access by a secret index two runs fault together
+pub record OfAnyMaker : Type 0 where
+  pub carried : UnmaskedCarries
+  pub alike : WholeRunsAlike Bool
+  pub together : WholeRunsTogether Bool

@@ -6,7 +6,7 @@ ghost use Rattle.program.specs.Refusals.{refused_by};
 ghost use Rattle.program.specs.Programs.{code_of};
 ghost use Rattle.counting.specs.Counting.{Countable};
 ghost use Rattle.converter.specs.Converting.{result_of, size_refusal, convert_refusal, Converts};
-ghost use Rattle.converter.specs.Theorems.{Straightens};
+ghost use Rattle.converter.specs.Theorems.{Straightens, KeepsWhat, OfAnyMaker};
 
 use crate::check::check;
 use crate::labelled::Labelled;
@@ -27,7 +27,8 @@ mod places;
 /// The most steps that a result may make.
 const MOST_STEPS: usize = 1_000_000;
 
-// Whether the result has few enough steps, and a list of `room` entries can take it.
+// Whether the result has few enough steps, and a list of `room` entries can take it. That it can be counted is asked
+// of code that is in no program yet.
 fn size_fits(code: &[Instruction], room: usize) -> Result<(), Refusal>
     requires { Countable code.now }
     ensures { refused_by result ≡ size_refusal code.now room }
@@ -78,6 +79,8 @@ pub fn convert(
 ) -> Result<Program, HandedBack>
     ensures answer { Converts source.now hides list.items result }
     ensures straight { Straightens source.now result }
+    ensures keeps { KeepsWhat source.now hides result }
+    ensures any { OfAnyMaker }
 {
     let out = match attempt(source, hides, list.len()) {
         Ok(out) => out,

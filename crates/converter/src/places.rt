@@ -54,7 +54,7 @@ fn end_place(out: &mut Output, masks: &Masks)
     }
 }
 
-// Writes what the instruction at `place` becomes.
+// Writes what the instruction at `place` becomes. Bounds are asked of what stands plain in a list of the caller's.
 fn convert_one(
     out: &mut Output,
     source: &Labelled,

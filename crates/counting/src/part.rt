@@ -1,6 +1,7 @@
 // A row of instructions that is being counted inside a bracket.
 
-// One row serves ifs and repeats: what the other kind needs stays 0.
+// One row serves ifs and repeats, and what the other kind needs stays 0: from an enum each reader would take the same
+// three numbers, or these zeros.
 /// What was counted before the bracket, what the arm before an else counts with the step of that
 /// else, and how often a repeat goes round.
 #[derive(Clone, Copy, Default)]

@@ -30,6 +30,7 @@ fn total(x: usize, y: usize, z: usize) -> usize
     x.saturating_add(y).saturating_add(z).min(HELD)
 }
 
+// Bounds are asked of ops and instructions that stand plain in a list of the caller's.
 fn with_op(sum: usize, op: Op, prices: &Price) -> usize
     requires { FitOp 32 8 op }
     ensures value { result ≡ hold (sum + price (priced prices.now.step prices.now.tables) op) }

@@ -25,7 +25,7 @@ land_rest : (tables : List Table) (code : List Instruction) (o : Out) (p : ℕ) 
 land_rest tables code (fine s) p h = ap (λ l. step tables code l p [] s) h
 land_rest tables code (fault q s) p h = refl
 
-long : {Note : Type 0} (b : Block Note) (p : ℕ) (is : List Instruction) → p + length (flat b is) ≡ fin b p + length is
+pub long : {Note : Type 0} (b : Block Note) (p : ℕ) (is : List Instruction) → p + length (flat b is) ≡ fin b p + length is
 long done p is = refl
 long (one o b) p is = let e = long b (suc p) is in omega arith
 long (if_then c a t b) p is = let e = long t (suc p) (End ∷ flat b is) in let f = long b (suc (fin t (suc p))) is in omega arith

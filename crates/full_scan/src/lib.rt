@@ -14,6 +14,7 @@ use memory::window::Window;
 use memory::{Access, Mark, Memory};
 use program::refusal::Refusal;
 
+// The number is what contracts give: with an Option for more than a million each would turn it into this.
 /// A cost that is larger is held at this.
 const HELD: usize = 1_000_001;
 
@@ -27,6 +28,8 @@ fn chosen(here: bool, new: u32, old: u32) -> u32
 {
     if here { new } else { old }
 }
+
+// That the access is allowed is asked of both: it is a fact about the memory as it is at the call.
 
 // Reads each offset, and answers the word at `off`.
 fn read_all<M: Memory>(below: &mut M, table: Window, off: usize) -> u32

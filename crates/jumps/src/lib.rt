@@ -10,7 +10,8 @@ use instructions::Instruction;
 use program::program::Program;
 use stack::Stack;
 
-// One row serves ifs and repeats: each reads only what its own kind needs.
+// One row serves ifs and repeats, and each reads only what its own kind needs: brackets pair, so an enum would have
+// arms that never come.
 /// A bracket that closes, as a pass from the end meets it: where an if that fails goes, where its
 /// else goes, and where a repeat without rounds goes.
 #[derive(Clone, Copy, Default)]

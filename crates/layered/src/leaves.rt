@@ -8,7 +8,7 @@ use leaf::cells::Cells;
 use memory::Mark;
 use std::alloc::{AllocError, Global};
 
-// The makes are two and no more, and a pile gives its cells back: an enum, and no `dyn`.
+// The makes are two and no more, and a pile gives its cells back: an enum, whose arms each method names, and no `dyn`.
 /// Cells of either make.
 #[derive(Drop)]
 pub enum LeafCells {

@@ -34,6 +34,7 @@ pub fn shift(op: ShiftOp, x: u32, by: u32) -> u32
     }
 }
 
+// Its bounds are asked: values stand plain in a list of the caller's, and a program has them within bounds.
 /// A value as the registers give it.
 pub fn value(what: Value, registers: &[u32; 32]) -> u32
     requires { FitValue 32 what }

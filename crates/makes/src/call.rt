@@ -34,6 +34,7 @@ pub enum Call {
     Clear,
 }
 
+// A refusal is one of the answers that a case file expects, so this is no Result.
 #[derive(Clone, Copy)]
 pub enum Answer {
     Word { word: u32 },
@@ -44,7 +45,7 @@ pub enum Answer {
     Refused { refusal: Refusal },
 }
 
-// What a read answers.
+// What a read answers. That of a write has nothing to carry: of both one generic function would be handed what differs.
 fn read(answer: Result<u32, Refusal>) -> Answer
     ensures { result ≡ word_or answer }
 {
@@ -103,7 +104,7 @@ impl fmt::Display for Answer {
             Answer::Seen { mark: Some(mark) } => write!(f, "{mark}"),
             Answer::Seen { mark: None } => f.write_str("none"),
             Answer::Done => f.write_str("ok"),
-            // The words of case files; the listing has others.
+            // The words of case files, as trials has them of its own answers: the listing has others.
             Answer::Refused { refusal } => {
                 let number = refusal.number();
                 let place = refusal.place;

@@ -94,7 +94,7 @@ impl FromStr for Make {
 
     fn from_str(name: &str) -> Result<Make, Unnamed> {
         let mut names = name.split('+');
-        let bottom = names.next().unwrap_or("");
+        let bottom = names.next().ok_or(Unnamed::Unreadable)?;
         let layers = layers(names)?;
         leaf(bottom, layers).ok_or(Unnamed::Unreadable)
     }

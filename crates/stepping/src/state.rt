@@ -19,6 +19,7 @@ pub struct State {
 }
 
 impl State {
+    // Bounds are asked of what stands plain in a list of the caller's.
     /// Takes the instruction at `place`: changes registers, open repeats and memory, and says where
     /// the run goes and with what choice.
     pub fn step<M: Memory>(

@@ -1,3 +1,4 @@
+-- Each goal has a context of its own, so each names its lemmas again.
 use Rattle.std.proofs.Common.{◌≡◌, ◌+◌, ◌≤◌, [], length, sym, ap, ◌∙◌, subst, arith}
 use Rattle.labels.specs.Sets.{sets}
 use Rattle.plan.specs.Planned.{Passable}

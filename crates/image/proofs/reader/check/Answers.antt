@@ -1,3 +1,4 @@
+-- Each goal has a context of its own, so each names its lemmas again.
 use Rattle.std.proofs.Common.{[], ap, ◌∙◌}
 use Rattle.std.proofs.lemmas.Result.{err_from_is_err_and}
 use Rattle.program.specs.Pairing.{pairing}
