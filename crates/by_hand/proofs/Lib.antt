@@ -1,0 +1,3 @@
+pub mod Reckoned
+pub mod Beyond
+pub mod Cases

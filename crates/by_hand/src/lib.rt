@@ -1,0 +1,2 @@
+// Cases worked by hand.
+#![tactic(auto)]
