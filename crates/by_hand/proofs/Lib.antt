@@ -1,3 +1,7 @@
 pub mod Reckoned
 pub mod Beyond
-pub mod Cases
+pub mod Sources
+pub mod Ifs
+pub mod Accesses
+pub mod Repeats
+pub mod ByHand

@@ -1,5 +1,5 @@
 -- The labels of a small source reckoned, and what is refused by them.
-use Rattle.std.proofs.Common.{◌≡◌, ℕ, suc, ◌+◌, ◌-◌, ◌*◌, ◌≤◌, Bool, true, false, List, [], ◌∷◌, length, replicate, Some, Option, ap, ◌∙◌, arith}
+use Rattle.std.proofs.Common.{◌≡◌, ℕ, suc, ◌+◌, ◌-◌, ◌*◌, ◌≤◌, Bool, true, List, [], ◌∷◌, length, replicate, Some, Option, ap, ◌∙◌, arith}
 use Rattle.std.specs.Prelude.{nat_le}
 use Rattle.instructions.specs.declared.Instruction.{Instruction}
 use Rattle.program.specs.declared.header.Header.{Header}
@@ -35,7 +35,7 @@ refusal_by h code hides room plan =
     or_else (unless (is_source h.kind) NotASource 0)
     (or_else (first_wrong (secret_tables h.tables) (hidden_by hides) (sets plan) [] 0 code) (size_refusal (convert (lengths h.tables) (sets plan) [] 0 code) room))
 
-le_true : (a b : ℕ) → a ≤ b → nat_le a b ≡ true
+pub le_true : (a b : ℕ) → a ≤ b → nat_le a b ≡ true
 le_true a b h = grind (arith)
 
 pub accepts : (h : Header) (code : List Instruction) (hides : Bool) (long : ℕ) (plan : List ℕ) → plan_of h code ≡ plan
@@ -43,9 +43,9 @@ pub accepts : (h : Header) (code : List Instruction) (hides : Bool) (long : ℕ)
 accepts h code hides long plan e by room fits =
     ap (refusal_by h code hides room) e ∙ by room ∙ ap (λ c. unless c NoRoomForResult long) (le_true long room fits)
 
-pub refuses : (h : Header) (code : List Instruction) (why : Reason) (p : ℕ) (plan : List ℕ) → plan_of h code ≡ plan
-    → ((room : ℕ) → refusal_by h code false room plan ≡ Some (refusal why p)) → Refuses h code why p
-refuses h code why p plan e by room = ap (refusal_by h code false room) e ∙ by room
+pub refuses : (h : Header) (code : List Instruction) (hides : Bool) (why : Reason) (p : ℕ) (plan : List ℕ) → plan_of h code ≡ plan
+    → ((room : ℕ) → refusal_by h code hides room plan ≡ Some (refusal why p)) → Refuses h code hides why p
+refuses h code hides why p plan e by room = ap (refusal_by h code hides room) e ∙ by room
 
 pub result_by_plan : (h : Header) (code : List Instruction) (plan : List ℕ) → plan_of h code ≡ plan → result_of h code ≡ convert (lengths h.tables) (sets plan) [] 0 code
 result_by_plan h code plan e = ap (λ l. convert (lengths h.tables) (sets l) [] 0 code) e
