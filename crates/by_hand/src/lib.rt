@@ -2,3 +2,5 @@
 #![tactic(auto)]
 
 pub mod routine;
+#[cfg(test)]
+mod tests;
