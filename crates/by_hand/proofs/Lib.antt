@@ -4,4 +4,5 @@ pub mod Sources
 pub mod Ifs
 pub mod Accesses
 pub mod Repeats
+pub mod SmallImages
 pub mod ByHand

@@ -17,6 +17,7 @@ use Rattle.converter.specs.Converting.{result_of}
 use Rattle.conversion.specs.Sources.{IsSource}
 use Rattle.run.specs.Run.{refusal as run_refusal}
 use Rattle.by_hand.specs.declared.routine.Routine.{Routine}
+use Rattle.by_hand.specs.SmallImages.{SmallImages}
 use Rattle.by_hand.specs.Routines.{choose, lookup, update, walk, rounds, too_many_rounds, instructions, four_cells, source, after, steps_of, shown, Accepts, Refuses}
 
 -- const 25,0; same 26,1,25; same 16,26,25; const 25,7; pick 0,16,25; const 25,1; xor 16,16,25; const 25,9; pick 0,16,25
@@ -45,7 +46,7 @@ pub record PublicIf (secret : Bool) : Type 0 where
 abbrev pub guarded : List Instruction
 guarded = result_of (source true 0 lookup) lookup
 
--- it has eleven instructions; an index in range shows that cell, on any flat memory
+-- it has eleven instructions; an index in range shows that cell, on every flat memory
 pub record LoadInRange : Type 0 where
   pub accepted : (hides : Bool) → Accepts (source true 0 lookup) lookup hides 11
   pub long : length guarded ≡ 11
@@ -108,5 +109,6 @@ pub record ByHand : Type 0 where
   pub secret_walk : (secret : Bool) → SecretWalk secret
   pub most_rounds : (secret : Bool) → MostRounds secret
   pub too_many_rounds : (secret : Bool) → TooManyRounds secret
+  pub small_images : SmallImages
   -- each of the routines is a source, whatever entry registers are secret
   pub sources : (routine : Routine) (secret : Bool) (entry : ℕ) → entry < 65536 → IsSource (source secret entry (instructions routine)) (instructions routine)
