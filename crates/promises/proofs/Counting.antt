@@ -26,7 +26,8 @@ use Rattle.calls.specs.Calls.{converted}
 use Rattle.promises.specs.Promises.{Straight}
 use Rattle.promises.specs.Kept.{Accepted, result_run, RunsCounted}
 use Rattle.promises.proofs.InRange.{InRange, in_range}
-use Rattle.promises.proofs.Following.{labels, tree_of, ends}
+use Rattle.promises.proofs.Following.{labels, ends}
+use Rattle.converter.proofs.Keeping.{tree_of}
 
 -- each visit is a step
 steps_weigh : (t : List Event) → length (visits_of t) ≡ weigh each_step t
@@ -69,7 +70,7 @@ module _ {hides : Bool} (s : Seated) (ok : Accepted hides s) (entry cells : List
   -- whatever is counted, a run counts at most the most, where that is not held
   weighs_most : (w : Price) → sums w [] 0 (converted s).code ≤ 1000000 → weigh w (result_run s entry cells).trace ≤ sums w [] 0 (converted s).code
   weighs_most w few =
-      let t = tree_of s ok in
+      let t = tree_of s.header s.code ok.source in
       let b = T.converted (lengths s.header.tables) 0 t.block 0 done in
       let e = sums_is w b (converted s).code t.result in
       let h = weighs s.header.tables (converted s).code b t.result t.shallow (first entry cells) (most_steps (converted s).code) w in
@@ -86,7 +87,7 @@ runs_counted d s entry cells law ok small few low =
     let le_steps = weighs_most s ok entry cells each_step ok.short in
     let le_marks = weighs_most s ok entry cells w few in
     let m = marks_weigh d s.header.tables law small z.trace (run_in_range s ok entry cells) (omega arith) in
-    let all = λ (o : Straight s). result_counts_most (labels s) s.header s.code (first entry cells) z (tree_of s ok) o ok.short (ends s ok entry cells low) in
+    let all = λ (o : Straight s). result_counts_most (labels s) s.header s.code (first entry cells) z (tree_of s.header s.code ok.source) o ok.short (ends s ok entry cells low) in
     record {
       few_steps = omega arith;
       few_marks = omega arith;

@@ -1,10 +1,8 @@
 -- Two runs of a result that start the same but for what is secret look alike.
-use Rattle.std.proofs.Common.{◌≡◌, ℕ, ◌<◌, ◌≤◌, Bool, true, false, cond, ltb, List, [], ◌∷◌, ◌++◌, length, get_or, None, sym, refl, ap, subst, arith}
+use Rattle.std.proofs.Common.{◌≡◌, ℕ, ◌<◌, ◌≤◌, Bool, true, false, cond, ltb, List, [], ◌∷◌, ◌++◌, length, refl, ap, arith}
 use Rattle.std.proofs.lemmas.Bool.{ltb-true}
-use Rattle.instructions.specs.declared.Instruction.TheVariants.{Again}
 use Rattle.program.specs.declared.header.Table.{Table}
-use Rattle.program.specs.Headers.{registers_of, cells_of, first_cell}
-use Rattle.program.specs.Bounds.{bound}
+use Rattle.program.specs.Headers.{cells_of, first_cell}
 use Rattle.memory.specs.declared.Access.{Access}
 use Rattle.memory.specs.declared.Access.TheVariants.{Read, Write}
 use Rattle.memory.specs.Description.{Mark, Description, Shows}
@@ -12,14 +10,10 @@ use Rattle.memory.specs.Laws.{Lawful}
 use Rattle.machine.specs.declared.visit.Visit.{Visit}
 use Rattle.machine.specs.States.{Event, visit, reads, writes}
 use Rattle.machine.specs.Machine.{length_of, first}
-use Rattle.labels.specs.Kinds.{secrecy}
-use Rattle.labels.specs.Rules.{Solves}
 use Rattle.labels.specs.Sets.{bits, secret_tables}
-use Rattle.labels.proofs.Proved.{smallest_exists}
 use Rattle.groups.specs.Groups.{lengths}
-use Rattle.conversion.specs.Labelling.{Labelled}
-use Rattle.conversion.specs.Refusing.{hidden_by, first_wrong}
-use Rattle.conversion.proofs.Labelling.{labellings}
+use Rattle.conversion.specs.Refusing.{hidden_by}
+use Rattle.converter.proofs.Keeping.{solves, tree_of, labelled}
 use Rattle.secrecy.specs.Alike.{LooksLike, Alike}
 use Rattle.secrecy.specs.Alike as L
 use Rattle.secrecy.specs.Converted.{wide}
@@ -30,7 +24,7 @@ use Rattle.run.specs.Run.{visit_at, visits_of, marks_of}
 use Rattle.calls.specs.Benches.{Seated}
 use Rattle.calls.specs.Calls.{converted}
 use Rattle.promises.specs.Kept.{Accepted, result_run, SamePublic, RunsAlike}
-use Rattle.promises.proofs.Following.{labels, tree_of, ends}
+use Rattle.promises.proofs.Following.{labels, ends}
 
 wide_false : (A : ℕ → Bool) (r : ℕ) (b : Bool) → ltb r 16 ≡ b → cond b (A r) true ≡ false → (r < 16) × (A r ≡ false)
 wide_false A r true h e = (ltb-true r 16 h, e)
@@ -72,34 +66,21 @@ module _ (d : Description) (tables : List Table) (law : Lawful d) (small : cells
       (record { each = marks_each tables d.rules.shows; reading = λ p b i j x h li lj. hidden_marks Read b i j x h li lj; writing = λ p b i j x h li lj. hidden_marks Write b i j x h li lj }) l
 
 module _ {hides : Bool} (s : Seated) (ok : Accepted hides s) where
-  bounds : (p : ℕ) → p < length s.code → bound 16 s.header.used (get_or s.code p Again) ≡ true
-  bounds p l = subst (λ k. bound (registers_of k) s.header.used (get_or s.code p Again) ≡ true) ok.source.kind (ok.source.list.bounds p (omega (arith, ok.source.whole)))
-
-  solves : Solves secrecy (secret_tables s.header.tables) (bits s.header.secret_entry) s.code (labels s)
-  solves = (smallest_exists s.header.used (secret_tables s.header.tables) s.header.secret_entry s.code ok.source.header.narrow bounds).solves
-
-  labelled : Labelled (secret_tables s.header.tables) (hidden_by hides) (labels s) 0 (tree_of s ok).block 0
-  labelled =
-      let t = tree_of s ok in
-      labellings (secret_tables s.header.tables) (hidden_by hides) (bits s.header.secret_entry) (labels s) t.block t.notes
-      (subst (λ c. Solves secrecy (secret_tables s.header.tables) (bits s.header.secret_entry) c (labels s)) (sym t.row) solves)
-      (subst (λ c. first_wrong (secret_tables s.header.tables) (hidden_by hides) (labels s) [] 0 c ≡ None) (sym t.row) ok.places)
-
   begins : (entry entry′ memory memory′ : List ℕ) → SamePublic s entry entry′ memory memory′
       → Alike s.header.tables (secret_tables s.header.tables) (hidden_by hides) (wide (labels s 0)) (first entry memory) (first entry′ memory′)
   begins entry entry′ memory memory′ g = record {
     registers = λ r h.
         let w = wide_false (labels s 0) r (ltb r 16) refl h in
-        g.registers r w.0 (publics (bits s.header.secret_entry) (labels s 0) solves.start r w.1);
+        g.registers r w.0 (publics (bits s.header.secret_entry) (labels s 0) (solves s.header s.code ok.source).start r w.1);
     cells = g.cells;
     trace = L.LooksLike.none;
   }
 
 pub runs_alike : RunsAlike
 runs_alike d s entry entry′ memory memory′ law ok small low low′ g =
-    let t = tree_of s ok in
+    let t = tree_of s.header s.code ok.source in
     let tables = s.header.tables in
     let r = converted_runs_alike tables (secret_tables tables) (hidden_by d.rules.hides) (labels s) (lengths tables) s.header.used t.block (converted s).code
-    (first entry memory) (first entry′ memory′) (result_run s entry memory) (result_run s entry′ memory′) t.fits (labelled s ok) t.result t.shallow ok.short
+    (first entry memory) (first entry′ memory′) (result_run s entry memory) (result_run s entry′ memory′) t.fits (labelled s.header s.code ok.source d.rules.hides ok.places) t.result t.shallow ok.short
     (begins s ok entry entry′ memory memory′ g) (ends s ok entry memory low) (ends s ok entry′ memory′ low′) in
     record { visits = visits_same d tables law small r.trace; marks = marks_same d tables law small r.trace; cells = r.cells }
