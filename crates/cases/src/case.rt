@@ -2,11 +2,13 @@
 ghost use Rattle.std.specs.Prelude.{◌≡◌, ◌≤◌, IfSome, IfOk, vec_len};
 ghost use Rattle.cases.specs.Lines.{line_of};
 
+use crate::bytes::Bytes;
 use crate::case_error::CaseError;
 use crate::plans::Labels;
 use crate::visits::Visits;
+use converter::convert;
 use counting::most_steps;
-use image::reader;
+use image::{reader, writer};
 use instructions::Instruction;
 use layered::leaves::into_cells;
 use layered::pile::{Pile, into_leaf};
@@ -26,6 +28,9 @@ use trials::room::Room;
 
 /// The longest list that a case may ask for: longer than any that makes a difference.
 const LONGEST_LIST: usize = 2_000_000;
+
+/// A header of 64 bytes and 3,000 instructions of 8 bytes.
+const LONGEST_IMAGE: usize = 24064;
 
 /// `KIND ID NAME=VALUE NAME=VALUE .. -> EXPECTED`
 #[derive(Clone, Copy)]
@@ -115,6 +120,7 @@ impl Case<'_> {
             "read" => self.read(heap, room),
             "write" => self.write(heap, room),
             "plan" => self.plan_case(heap),
+            "convert" => self.convert_case(heap),
             "run" => self.run_program(heap),
             _ => Err(CaseError::UnknownKind),
         }
@@ -152,6 +158,28 @@ impl Case<'_> {
         list.truncate(usize::from(program.header().count).saturating_add(1));
         let labels = Labels { labels: &list };
         Ok(format!(in heap; "ok {labels}")?)
+    }
+
+    // Whether the memory hides.
+    fn hides(self) -> Result<bool, CaseError> {
+        match self.value("hides")? {
+            "0" => Ok(false),
+            "1" => Ok(true),
+            _ => Err(CaseError::Unreadable),
+        }
+    }
+
+    fn convert_case(self, heap: Global) -> Result<String, CaseError> {
+        let program = self.program_of(heap)?;
+        let list = vec![in heap; Instruction::Again; self.length("cap")?]?;
+        let straight = convert(&program, self.hides()?, list).map_err(|back| CaseError::Refused(
+            back.refusal,
+        ))?;
+        let mut image = vec![in heap; 0u8; LONGEST_IMAGE]?;
+        let length = writer::write(&straight, &mut image)?;
+        image.truncate(length);
+        let bytes = Bytes { bytes: &image };
+        Ok(format!(in heap; "ok {bytes}")?)
     }
 
     // The memory that the case names, with its cells.

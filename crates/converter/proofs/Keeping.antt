@@ -1,5 +1,5 @@
 -- What runs of a result leave and show, beside runs of its source.
-use Rattle.std.proofs.Common.{◌≡◌, ℕ, ◌<◌, ◌≤◌, Bool, true, leb, List, [], take_all, length, take, get_or, is_some, None, vec_items, le_of_eq, sym, ap, ◌∙◌, subst, arith}
+use Rattle.std.proofs.Common.{◌≡◌, ℕ, ◌<◌, ◌≤◌, Bool, true, leb, List, [], take_all, length, get_or, is_some, None, vec_items, le_of_eq, sym, ap, ◌∙◌, subst, arith}
 use Rattle.std.proofs.lemmas.List.{get_or-take}
 use Rattle.std.proofs.lemmas.Bool.{leb-true}
 use Rattle.instructions.specs.declared.Instruction.{Instruction}

@@ -6,5 +6,6 @@ pub mod Bounded
 pub mod Left
 pub mod Results
 pub mod Short
+pub mod Joined
 mod Within
 pub mod Keeping

@@ -55,7 +55,7 @@ fn end_place(out: &mut Output, masks: &Masks)
 }
 
 // Writes what the instruction at `place` becomes. Bounds are asked of what stands plain in a list of the caller's.
-fn convert_one(
+pub(crate) fn convert_one(
     out: &mut Output,
     source: &Labelled,
     masks: &Masks,

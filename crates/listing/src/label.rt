@@ -2,6 +2,7 @@
 use crate::heading::RegisterSet;
 use std::fmt;
 
+// Both are shown; a place without a plan shows what one with no secret register does, nothing.
 /// The secret registers on arriving at a place, and whether its if branches by one of them. Nothing
 /// is shown where all is public.
 #[derive(Clone, Copy)]

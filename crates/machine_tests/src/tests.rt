@@ -66,7 +66,8 @@ fn put(image: &mut Vec<u8>, at: usize, value: u8) {
     }
 }
 
-/// What the run answers, and the visit list then: entries that were not filled are place 9,999.
+/// What the run answers, and the visit list then: entries that were not filled are place 9,999. A refusal is an
+/// answer here, and `?` passes on only the lack of memory.
 fn answer(heap: Global, case: &Case) -> Result<(Answer, Vec<Visit>), AllocError> {
     let image = image_of(heap, case)?;
     let list = vec![in heap; Instruction::End; 16]?;

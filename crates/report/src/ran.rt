@@ -35,18 +35,16 @@ impl fmt::Display for Totals {
     }
 }
 
-/// The registers, so many of them.
+/// Registers, from 0 on.
 #[derive(Clone, Copy)]
-pub struct Registers {
-    pub words: [u32; 32],
-    pub count: u8,
+pub struct Registers<'a> {
+    pub words: &'a [u32],
 }
 
-impl fmt::Display for Registers {
+impl fmt::Display for Registers<'_> {
     fn fmt<W: fmt::Write>(&self, f: &mut fmt::Formatter<W>) -> fmt::Result {
         f.write_str("registers:")?;
-        let count = usize::from(self.count);
-        for (i, word) in self.words.iter().take(count).enumerate() {
+        for (i, word) in self.words.iter().enumerate() {
             write!(f, " r{i}={word}")?;
         }
         Ok(())

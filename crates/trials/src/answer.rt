@@ -32,6 +32,7 @@ impl fmt::Display for Answer {
                 write!(f, "ok kind={kind} n={count}")
             }
             Answer::Written { length } => write!(f, "ok {length}"),
+            // The words of case files. What a memory answers is shown so too, and shares nothing else with this.
             Answer::Refused { refusal } => {
                 let number = refusal.number();
                 let place = refusal.place;

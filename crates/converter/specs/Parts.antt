@@ -1,0 +1,20 @@
+-- How long the part of the result is that each place became.
+use Rattle.std.specs.Prelude.{ℕ, suc, Bool, List, [], ◌∷◌, length}
+use Rattle.instructions.specs.declared.Instruction.{Instruction}
+use Rattle.program.specs.declared.header.Header.{Header}
+use Rattle.program.specs.declared.opening.Marked.{Marked}
+use Rattle.labels.specs.Kinds.{secrecy}
+use Rattle.labels.specs.Passes.{opens}
+use Rattle.labels.specs.Sets.{sets}
+use Rattle.plan.specs.Planned.{plan_of}
+use Rattle.groups.specs.Groups.{lengths}
+use Rattle.conversion.specs.Conversion.{becomes}
+
+-- of what instructions from place p on become
+abbrev pub part_lengths : (ℕ → ℕ) → (ℕ → ℕ → Bool) → List (Marked Bool) → ℕ → List Instruction → List ℕ
+part_lengths long S ks p [] = []
+part_lengths long S ks p (i ∷ is) = length (becomes long (S p) ks p i) ∷ part_lengths long S (opens secrecy (S p) ks p i) (suc p) is
+
+-- of a source, by its smallest labels
+abbrev pub parts_of : Header → List Instruction → List ℕ
+parts_of h code = part_lengths (lengths h.tables) (sets (plan_of h code)) [] 0 code
