@@ -15,7 +15,7 @@ use Rattle.calls.specs.declared.Call.TheVariants.{Seat, Put, Arg, Go, Look, Open
 use Rattle.calls.specs.declared.Answer.TheVariants.{Word}
 use Rattle.calls.specs.Benches.{Seated, or_blank, is_none, most_steps_of, most_marks_of, none_seated, no_such_table, secret_table, outside, dear}
 use Rattle.calls.specs.Calls.{Test, ◌⇒◌, first_of, source_at, converted, unconverted, refused, counts}
-use Rattle.promises.specs.Promises.{SameBut, same, seats, puts, args}
+use Rattle.promises.specs.Promises.{SameBut, same, seats, puts, args, early_puts, early_args}
 use Rattle.promises.specs.Kept.{RunsAlike}
 use Rattle.promises.proofs.Refused.{differ, none_left, fails, rest}
 use Rattle.promises.proofs.Sound.{Sound}
@@ -39,6 +39,8 @@ same_refusal a o p (seats v w e) g =
     (or_else (image_refusal (e t)) (or_else (unconverted a.rules.hides (source_at (e t))) (first_of (ltb (g.size t) (cells_of (header_at (e t)).tables) ⇒ MemoryTooSmall ∷ []))))
 same_refusal a o p (puts t i v w e) g = refl
 same_refusal a o p (args r v w e) g = refl
+same_refusal a o p (early_puts t i v w e) g = refl
+same_refusal a o p (early_args r v w e) g = refl
 
 putting : (a : Shared) (o p : Own) (t i v w : ℕ) → Agree a o p → refused (Put t i v) (of a o) ≡ None → (secret_table (of a o) t ≡ false → v ≡ w) → Next (Put t i v) (Put t i w) a o p
 putting a o p t i v w g h e =
@@ -175,4 +177,7 @@ accepted alike a o p (same Outcome) g u u′ s z h = staying a o p g
 accepted alike a o p (same Clear) g u u′ s z h = clearing a o p g
 accepted alike a o p (seats v w e) g u u′ s z h = seating a o p v w e g h
 accepted alike a o p (puts t i v w e) g u u′ s z h = putting a o p t i v w g h (λ q. differ (sym e ∙ q))
+accepted alike a o p (early_puts t i v w e) g u u′ s z h =
+    let b = of a o in differ (sym e ∙ fails (none_seated b) NoneSeated (no_such_table b t ⇒ NoSuchTable ∷ outside b t i ⇒ IndexTooLarge ∷ dear Write b t ⇒ NoFreeMarks ∷ []) h)
+accepted alike a o p (early_args r v w e) g u u′ s z h = differ (sym e ∙ fails (none_seated (of a o)) NoneSeated (ltb 15 r ⇒ NoSuchRegister ∷ []) h)
 accepted alike a o p (args r v w e) g u u′ s z h = arging a o p r v w g (s.low ∙ sym z.low) h (λ q. differ (sym e ∙ q))

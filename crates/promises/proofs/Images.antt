@@ -15,7 +15,8 @@ use Rattle.counting.specs.Counting.{most_steps}
 use Rattle.calls.specs.Benches.{Seated}
 use Rattle.calls.specs.Calls.{source_at}
 use Rattle.promises.specs.Kept.{ImagesAccepted}
-use Rattle.promises.proofs.Refused.{none_left, none_right, passes}
+use Rattle.promises.proofs.Refused.{none_left, none_right}
+use Rattle.program.proofs.Refusals.{passed}
 
 module _ (s : Seated) (sound : SoundCode s.header s.code) where
   whole_list : SoundList s.header s.code
@@ -41,5 +42,5 @@ images_accepted hides bs small read unrefused =
         whole = sound.long;
       };
       places = none_left (place_refusal s.header s.code hides) size then;
-      short = leb-true (most_steps (result_of s.header s.code)) 1000000 (passes (leb (most_steps (result_of s.header s.code)) 1000000) TooManySteps 0 (none_right (place_refusal s.header s.code hides) size then));
+      short = leb-true (most_steps (result_of s.header s.code)) 1000000 (passed (leb (most_steps (result_of s.header s.code)) 1000000) TooManySteps 0 (none_right (place_refusal s.header s.code hides) size then));
     }

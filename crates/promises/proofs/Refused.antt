@@ -2,7 +2,8 @@
 use Rattle.std.proofs.Common.{◌≡◌, ℕ, Bool, true, false, List, ◌∷◌, Some, None, Option, refl, true≢false, arith}
 use Rattle.program.specs.declared.refusal.Reason.{Reason}
 use Rattle.program.specs.declared.refusal.Refusal.{Refusal}
-use Rattle.program.specs.Refusals.{unless, or_else}
+use Rattle.program.specs.Refusals.{or_else}
+use Rattle.program.proofs.Refusals.{both}
 use Rattle.calls.specs.Calls.{Test, ◌⇒◌, first_of}
 
 pub never : {X : Type 0} {e : Refusal} → ◌≡◌ {A = Option Refusal} (Some e) None → X
@@ -12,16 +13,10 @@ pub differ : {X : Type 0} → true ≡ false → X
 differ h = absurd (true≢false h)
 
 pub none_left : (x y : Option Refusal) → or_else x y ≡ None → x ≡ None
-none_left None y h = refl
-none_left (Some e) y h = never h
+none_left x y h = (both x y h).0
 
 pub none_right : (x y : Option Refusal) → or_else x y ≡ None → y ≡ None
-none_right None y h = h
-none_right (Some e) y h = never h
-
-pub passes : (b : Bool) (why : Reason) (p : ℕ) → unless b why p ≡ None → b ≡ true
-passes true why p h = refl
-passes false why p h = never h
+none_right x y h = (both x y h).1
 
 -- the first test does not hold
 pub fails : (bad : Bool) (why : Reason) (tests : List Test) → first_of ((bad ⇒ why) ∷ tests) ≡ None → bad ≡ false

@@ -7,7 +7,7 @@ use Rattle.calls.specs.declared.Call.{Call}
 use Rattle.calls.specs.Benches.{Seated, Bench, new}
 use Rattle.calls.specs.Calls.{refused, leaves, after}
 use Rattle.promises.specs.Logs.{Entry, log}
-use Rattle.promises.specs.Promises.{ImageOfBytes, OfBytes, SameBut, same, seats, puts, args, Alike, LooksLike, Each}
+use Rattle.promises.specs.Promises.{ImageOfBytes, OfBytes, SameBut, same, seats, puts, args, early_puts, early_args, Alike, LooksLike, Each}
 use Rattle.promises.specs.Promises as P
 use Rattle.promises.specs.Kept.{ImagesAccepted, RunsAlike}
 use Rattle.promises.proofs.Logged.{logged}
@@ -43,6 +43,8 @@ same_bytes (same c) h = h
 same_bytes (seats v w e) h = λ i. subst (λ l. get_or l i 0 < 256) e (h i)
 same_bytes (puts t i v w e) h = tt
 same_bytes (args r v w e) h = tt
+same_bytes (early_puts t i v w e) h = tt
+same_bytes (early_args r v w e) h = tt
 
 module _ (images : ImagesAccepted) (alike : RunsAlike) where
   stepped : (a : Shared) (o p : Own) {x y : Call} (why : Option Refusal) → SameBut (of a o) x y → Agree a o p → (u v : Option Seated) → Sound u (of a o) → Sound v (of a p) → refused x (of a o) ≡ why → Stepped x y a o p why

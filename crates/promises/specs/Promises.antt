@@ -10,7 +10,7 @@ use Rattle.calls.specs.declared.Call.{Call}
 use Rattle.calls.specs.declared.Call.TheVariants.{Seat, Put, Arg, Go, Look, Open, Outcome, Clear}
 use Rattle.calls.specs.declared.Answer.{Answer}
 use Rattle.calls.specs.declared.Answer.TheVariants.{Done, Counts, Word, Ended}
-use Rattle.calls.specs.Benches.{Seated, Bench, new, secret_table, secret_register}
+use Rattle.calls.specs.Benches.{Seated, Bench, new, none_seated, secret_table, secret_register}
 use Rattle.calls.specs.Calls.{source_at, after, after_all, counts}
 use Rattle.promises.specs.Plain.{Plain, first, takes, Says}
 use Rattle.promises.specs.Logs.{Entry, log, heard}
@@ -23,12 +23,15 @@ Follows p (e ∷ es) cells = heard e.answer (Follows p es cells) (λ a. Says p e
 
 -- Secret words cannot be told apart.
 
--- the same call, but for a word that the program seated on the bench calls secret
+-- the same call, but for a word that the program seated on the bench calls secret, or that comes before one is seated
+-- and is refused
 pub data SameBut (b : Bench) : Call → Call → Type 0 where
   same : (c : Call) → SameBut b c c
   seats : (v w : _) → vec_items v ≡ vec_items w → SameBut b (Seat v) (Seat w)
   puts : (t i v w : ℕ) → secret_table b t ≡ true → SameBut b (Put t i v) (Put t i w)
   args : (r v w : ℕ) → secret_register b r ≡ true → SameBut b (Arg r v) (Arg r w)
+  early_puts : (t i v w : ℕ) → none_seated b ≡ true → SameBut b (Put t i v) (Put t i w)
+  early_args : (r v w : ℕ) → none_seated b ≡ true → SameBut b (Arg r v) (Arg r w)
 
 -- two lists that differ only in secret words, as the program says that is seated at each call
 pub data Alike : Bench → List Call → List Call → Type 0 where
