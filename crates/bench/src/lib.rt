@@ -1,0 +1,8 @@
+// A bench: a program on a memory, and the calls of its user.
+#![tactic(auto)]
+
+pub mod asking;
+pub mod bench;
+pub mod lists;
+pub mod making;
+pub mod setting;
