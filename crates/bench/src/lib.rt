@@ -6,3 +6,4 @@ pub mod bench;
 pub mod lists;
 pub mod making;
 pub mod setting;
+mod tables;
