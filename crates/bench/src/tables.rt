@@ -3,7 +3,7 @@ ghost use Rattle.std.specs.Prelude.{◌≡◌, ◌+◌, ◌<◌, ◌≤◌, [], 
 ghost use Rattle.program.specs.declared.refusal.Reason.TheVariants.{NoneSeated, NoSuchTable, IndexTooLarge, NoFreeMarks};
 ghost use Rattle.program.specs.Refusals.{refused_by};
 ghost use Rattle.memory.specs.Description.{free};
-ghost use Rattle.calls.specs.Benches.{none_seated, no_such_table, base, len};
+ghost use Rattle.calls.specs.Benches.{none_seated, no_such_table, base, len, secret_table};
 ghost use Rattle.calls.specs.Calls.{first_of, ◌⇒◌};
 ghost use Rattle.bench.specs.Views.{view};
 
@@ -29,6 +29,19 @@ impl<M: Memory> Bench<M> {
             first: header.first_cell(table) as usize,
             length: header.tables[table].length as usize,
         })
+    }
+
+    // Whether a table is secret; where there is none it is not.
+    pub(crate) fn is_secret(&self, table: usize) -> bool
+        ensures { result ≡ secret_table (view M.model self.now) table }
+    {
+        match &self.program {
+            Some(program) => {
+                let tables = program.header().tables;
+                table < tables.len() && tables[table].secret
+            }
+            None => false,
+        }
     }
 
     // Whether there is a cell of this index in the window, and marks are free for an access to it.
