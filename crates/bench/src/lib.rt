@@ -5,5 +5,6 @@ pub mod asking;
 pub mod bench;
 pub mod lists;
 pub mod making;
+pub mod seating;
 pub mod setting;
 mod tables;

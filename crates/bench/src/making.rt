@@ -17,7 +17,7 @@ impl<M: Memory + Drop> Bench<M> {
         memory.clear();
         Ok(Bench {
             memory,
-            lists: Some(lists),
+            lists,
             program: None,
             entry: [0; 16],
             last: None,
