@@ -1,2 +1,3 @@
 pub mod Seats
 pub mod Views
+pub mod Endings

@@ -5,6 +5,7 @@ pub mod asking;
 pub mod bench;
 pub mod lists;
 pub mod making;
+pub mod running;
 pub mod seating;
 pub mod setting;
 mod tables;

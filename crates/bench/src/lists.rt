@@ -37,7 +37,11 @@ impl Lists {
     {
         let source = longest(heap)?;
         let result = longest(heap)?;
-        Ok(Lists { heap, source, result })
+        Ok(Lists {
+            heap,
+            source,
+            result,
+        })
     }
 
     // Reads an image into the first list, which is lent to the program.

@@ -38,7 +38,7 @@ impl<M: Memory> Bench<M> {
         match &self.program {
             Some(program) => {
                 let tables = program.header().tables;
-                table < tables.len() && tables[table].secret
+                tables.get(table).is_some_and(|entry| entry.secret)
             }
             None => false,
         }
