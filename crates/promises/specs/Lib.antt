@@ -1,3 +1,4 @@
 pub mod Plain
 pub mod Logs
 pub mod Promises
+pub mod Kept

@@ -1,0 +1,16 @@
+pub mod Public
+pub mod Passing
+pub mod Carried
+pub mod Apart
+pub mod Beyond
+pub mod Same
+pub mod Meeting
+pub mod Ops
+pub mod Alike
+pub mod Steps
+pub mod Groups
+pub mod Converted
+pub mod Unmasked
+pub mod Whole
+pub mod Seen
+pub mod Together

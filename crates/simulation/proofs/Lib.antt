@@ -1,0 +1,13 @@
+pub mod Straight
+pub mod Predicated
+pub mod Groups
+pub mod Reaching
+pub mod Staying
+pub mod Tracking
+pub mod Arms
+pub mod TrackedOps
+pub mod Following
+pub mod Simulation
+pub mod OneWay
+pub mod Bounds
+pub mod Results

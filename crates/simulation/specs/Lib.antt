@@ -1,0 +1,4 @@
+pub mod Simulation
+pub mod OneWay
+pub mod Bounds
+pub mod Results

@@ -1,0 +1,3 @@
+// What conversion keeps: converted blocks do what their source does, and never fault.
+
+#![tactic(auto)]
