@@ -3,6 +3,7 @@
 
 pub mod asking;
 pub mod bench;
+pub mod calling;
 pub mod lists;
 pub mod making;
 pub mod running;
