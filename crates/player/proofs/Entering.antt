@@ -1,5 +1,5 @@
 -- What a call with as much room as it wants does, and what is noted of it.
-use Rattle.std.proofs.Common.{◌≡◌, ℕ, ◌+◌, ◌≤◌, min, Bool, ltb, cond, List, [], ◌∷◌, ◌++◌, length, take, drop, Some, None, Ok, Err, Option, Result, refl, sym, ap, ◌∙◌, arith}
+use Rattle.std.proofs.Common.{◌≡◌, ℕ, ◌≤◌, min, ltb, List, [], ◌∷◌, ◌++◌, length, take, drop, Some, None, Option, Result, refl, ap, ◌∙◌, arith}
 use Rattle.std.proofs.lemmas.List.{take_at}
 use Rattle.program.specs.declared.refusal.Refusal.{Refusal}
 use Rattle.program.specs.declared.refusal.Reason.TheVariants.{NoneSeated, NoRoomForVisits, NoFreeMarks}
@@ -12,7 +12,7 @@ use Rattle.calls.specs.declared.Answer.{Answer}
 use Rattle.calls.specs.Benches.{Bench, program, none_seated, most_steps_of, most_marks_of, new_visits}
 use Rattle.calls.specs.Calls.{first_of, ◌⇒◌, refused, leaves, replies, visits, answer, after, visited, counts}
 use Rattle.bench.specs.Rooms.{within}
-use Rattle.player.specs.Entries.{Shown, noted, room_of, made_by, steps_in}
+use Rattle.player.specs.Entries.{noted, room_of, made_by, steps_in}
 
 roomy : (room most bound : ℕ) → most ≤ bound → ltb (min room (min room bound)) most ≡ ltb room most
 roomy room most bound h = grind arith

@@ -1,4 +1,4 @@
-use Rattle.std.proofs.Common.{vec_items, ◌++◌, length, take, drop, ap, ◌∙◌}
+use Rattle.std.proofs.Common.{vec_items, length, take, drop, ap, ◌∙◌}
 use Rattle.std.proofs.lemmas.List.{take_at}
 use Rattle.memory.specs.Description.{Description}
 use Rattle.bench.specs.Views.{view}
