@@ -26,8 +26,7 @@ pub loop-call-preserved : goal.loop-call-preserved
 loop-call-preserved g c =
     let cs = c.args.calls.now in
     let l = c.loop-call in
-    let call = c.call-item.result in
-    (
+    let call = c.call-item.result in (
       log_more cs l.call-index call c.loop-call-test.true c.call-item.is _ _ c.in_ok-enter.ensures.after _ _ _ c.in_ok-push.ensures.items c.in_ok-enter.ensures.entry ∙ l.invariant.0,
       after_more cs l.call-index call c.loop-call-test.true c.call-item.is _ _ c.in_ok-enter.ensures.after ∙ l.invariant.1,
     )
