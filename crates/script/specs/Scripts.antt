@@ -1,7 +1,7 @@
 -- What a text asks for, line by line.
 use Rattle.std.specs.Prelude.{ℕ, suc, cond, ◌||◌, List, [], ◌∷◌, map, length, Some, None, Ok, Err, Option, Result, vec_items, ◌==◌, slice_index}
 use Rattle.std.specs.Str.{trim}
-use Rattle.script.specs.declared.script.Stop.{Stop}
+use Rattle.script.specs.declared.unread.Stop.{Stop}
 use Rattle.script.specs.declared.script.Script.{Script}
 use Rattle.script.specs.declared.unread.Unread.{Unread}
 use Rattle.script.specs.Orders.{Asked, asked, read_as}
