@@ -40,7 +40,7 @@ pub enum Call {
 }
 
 /// Steps and marks: those of a go, or the most of a program.
-#[derive(Clone, Copy)]
+#[derive(Clone, Copy, PartialEq, Eq, Debug)]
 pub struct Tally {
     pub steps: usize,
     pub marks: usize,
@@ -48,14 +48,14 @@ pub struct Tally {
 
 /// What a go left in registers 0 to 15, and in register 24: 0, or one more than the place of the
 /// fault that the source runs into.
-#[derive(Clone, Copy)]
+#[derive(Clone, Copy, PartialEq, Eq, Debug)]
 pub struct Ending {
     pub registers: [u32; 16],
     pub fault: u32,
 }
 
 /// What a call answers that is accepted.
-#[derive(Clone, Copy)]
+#[derive(Clone, Copy, PartialEq, Eq, Debug)]
 pub enum Answer {
     Done,
     Counts { tally: Tally },

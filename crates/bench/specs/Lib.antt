@@ -1,0 +1,4 @@
+pub mod Seats
+pub mod Views
+pub mod Endings
+pub mod Rooms
