@@ -27,7 +27,7 @@ impl<M: Memory> Bench<M> {
         }
         Ok(Window {
             first: header.first_cell(table) as usize,
-            length: header.tables[table].length as usize,
+            length: usize::from(header.tables[table].length),
         })
     }
 
