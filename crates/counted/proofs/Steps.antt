@@ -1,5 +1,5 @@
 -- One case more.
-use Rattle.std.proofs.Common.{◌≡◌, ℕ, ◌+◌, ◌-◌, ◌^◌, ◌<◌, min, sym, Bool, true, false, cond, ltb, ◌&&◌, List, [], ◌∷◌, ◌++◌, length, vec_len, vec_items, Vec, Ok, Err, Result, IfOk, is_ok, String, Global, ◌∙◌, refl, ap, arith, length-append}
+use Rattle.std.proofs.Common.{◌≡◌, ℕ, ◌+◌, ◌-◌, ◌^◌, min, sym, Bool, true, false, cond, ltb, ◌&&◌, List, [], ◌∷◌, ◌++◌, length, vec_len, vec_items, Vec, Ok, Err, Result, IfOk, is_ok, String, Global, ◌∙◌, ap, arith, length-append}
 use Rattle.std.proofs.lemmas.Bool.{ltb-true, ltb-false}
 use Rattle.tally.specs.declared.report.Report.{Report}
 use Rattle.counted.specs.Counted.{Counted}
