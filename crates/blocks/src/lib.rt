@@ -2,7 +2,9 @@
 // expected, the marks seen, and the cells at the end.
 #![tactic(auto)]
 
-ghost use Rattle.std.specs.Prelude.{◌≤◌, IfOk};
+ghost use Rattle.std.specs.Prelude.{◌≡◌, ℕ, ◌+◌, IfOk, is_some, if◌then◌else◌};
+ghost use Rattle.counted.specs.Counted.{Counted};
+ghost use Rattle.blocks.specs.Numbers.{begins, closed_at, open_after, blocks_in};
 
 mod block;
 mod calls;
@@ -10,24 +12,42 @@ mod line_error;
 mod lines;
 
 use block::{Block, Missing, close};
+use counted::differs;
 use lines::Line;
 use std::alloc::{AllocError, Global};
 use tally::report::Report;
 
 /// Runs all blocks of a text. A block counts as one, which agrees if each of its lines does.
 pub fn run(heap: Global, text: &str) -> Result<Report, AllocError>
-    ensures { IfOk result (λ report. report.tally.agree ≤ report.tally.all) }
+    ensures { IfOk result (λ report. Counted (blocks_in text.now) report) }
 {
-    let mut report = Report::new(heap);
+    let mut report = counted::none(heap);
     let mut block = None;
-    for (index, text) in text.lines().enumerate() {
-        let number = index.saturating_add(1);
-        block = take_line(heap, block, Line { number, text }, &mut report)?;
+    let mut number = 0usize;
+    for line in text.lines() {
+        number = number.saturating_add(1);
+        let line = Line { number, text: line };
+        block = take_line(heap, block, line, &mut report)?;
     }
-    if let Some(block) = block {
-        close(heap, block, Some(Missing::End), &mut report)?;
-    }
+    close_endless(heap, block, &mut report)?;
     Ok(report)
+}
+
+// Counts a block that has no end, where one is open.
+fn close_endless(heap: Global, block: Option<Block>, report: &mut Report) -> Result<(), AllocError>
+    ensures { (n : ℕ) → Counted n report.old → IfOk result (λ done. Counted (n + (if is_some block then 1 else 0)) report.new) }
+{
+    match block {
+        Some(block) => close(heap, block, Some(Missing::End), report),
+        None => Ok(()),
+    }
+}
+
+// What stands behind the word that begins a block.
+fn head_of(text: &str) -> Option<&str>
+    ensures { is_some result ≡ begins text.now }
+{
+    text.strip_prefix("memory ")
 }
 
 fn take_line(
@@ -36,16 +56,13 @@ fn take_line(
     line: Line,
     report: &mut Report,
 ) -> Result<Option<Block>, AllocError>
-    // A report's fields are public, so an invariant would ask more of who makes one.
-    ensures { report.old.tally.agree ≤ report.old.tally.all → report.new.tally.agree ≤ report.new.tally.all }
+    ensures { (n : ℕ) → Counted n report.old → IfOk result (λ next. Counted (n + closed_at (is_some block) line.entry.text.now) report.new × (is_some next ≡ open_after (is_some block) line.entry.text.now)) }
 {
     if line.text.is_empty() {
         return Ok(block);
     }
-    if let Some(head) = line.text.strip_prefix("memory ") {
-        if let Some(before) = block {
-            close(heap, before, Some(Missing::End), report)?;
-        }
+    if let Some(head) = head_of(line.text) {
+        close_endless(heap, block, report)?;
         return Ok(Some(Block::begin(
             heap,
             Line {
@@ -56,7 +73,7 @@ fn take_line(
     }
     let Some(block) = block else {
         let number = line.number;
-        report.differs(format!(in heap; "line {number}: not in a block")?)?;
+        differs(report, format!(in heap; "line {number}: not in a block")?)?;
         return Ok(None);
     };
     if line.text == "end" {

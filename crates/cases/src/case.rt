@@ -1,12 +1,15 @@
 // Cases, as the lines of a case file have them, each run by the way of its kind.
-ghost use Rattle.std.specs.Prelude.{◌≡◌, ◌≤◌, IfSome, IfOk, vec_len};
+ghost use Rattle.std.specs.Prelude.{◌≡◌, ℕ, ◌+◌, ◌≤◌, IfSome, IfOk};
+ghost use Rattle.counted.specs.Counted.{Counted};
 ghost use Rattle.cases.specs.Lines.{line_of};
+ghost use Rattle.cases.specs.Numbers.{case_count, cases_in};
 
 use crate::bytes::Bytes;
 use crate::case_error::CaseError;
 use crate::plans::Labels;
 use crate::visits::Visits;
 use converter::convert;
+use counted::{agrees, differs};
 use counting::most_steps;
 use image::{reader, writer};
 use instructions::Instruction;
@@ -76,27 +79,41 @@ impl<'a> Case<'a> {
     }
 }
 
-/// Runs all cases of a text, one to a line. Blank lines are no cases. At most three notes are kept.
+/// Runs all cases of a text, one to a line. Blank lines are no cases, and a line that is none otherwise
+/// counts as one that differs. At most three notes are kept.
 pub fn run(heap: Global, room: &mut Room, text: &str) -> Result<Report, AllocError>
-    ensures { IfOk result (λ report. vec_len report.notes ≤ 3) }
+    ensures { IfOk result (λ report. Counted (cases_in text.now) report) }
 {
-    let mut report = Report::new(heap);
-    for (index, line) in text.lines().enumerate() {
-        if line.is_empty() {
-            continue;
-        }
-        let number = index.saturating_add(1);
-        match Case::parse(line) {
-            Some(case) => case.run_case(heap, room, &mut report)?,
-            None => report.differs(format!(in heap; "line {number}: not a case")?)?,
-        }
+    let mut report = counted::none(heap);
+    let mut number = 0usize;
+    for line in text.lines() {
+        number = number.saturating_add(1);
+        run_line(heap, room, line, number, &mut report)?;
     }
     Ok(report)
 }
 
+fn run_line(
+    heap: Global,
+    room: &mut Room,
+    line: &str,
+    number: usize,
+    report: &mut Report,
+) -> Result<(), AllocError>
+    ensures { (n : ℕ) → Counted n report.old → IfOk result (λ done. Counted (n + case_count line.now) report.new) }
+{
+    if line.is_empty() {
+        return Ok(());
+    }
+    match Case::parse(line) {
+        Some(case) => case.run_case(heap, room, report),
+        None => differs(report, format!(in heap; "line {number}: not a case")?),
+    }
+}
+
 impl Case<'_> {
     fn run_case(self, heap: Global, room: &mut Room, report: &mut Report) -> Result<(), AllocError>
-        ensures { vec_len report.old.notes ≤ 3 → vec_len report.new.notes ≤ 3 }
+        ensures { (n : ℕ) → Counted n report.old → IfOk result (λ done. Counted (n + 1) report.new) }
     {
         let got = match self.came(heap, room) {
             Ok(answer) => answer,
@@ -104,13 +121,14 @@ impl Case<'_> {
             Err(why) => why.to_string(heap)?,
         };
         if got.as_str() == self.expected {
-            report.tally.count(true);
+            agrees(report);
             return Ok(());
         }
         let kind = self.kind;
         let id = self.id;
         let expected = self.expected;
-        report.differs(format!(in heap; "{kind} {id}: expected {expected}, got {got}")?)
+        let note = format!(in heap; "{kind} {id}: expected {expected}, got {got}")?;
+        differs(report, note)
     }
 
     // What came of a case, in the words of the case files. A match shows all kinds at one sight; a table of
