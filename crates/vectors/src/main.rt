@@ -2,8 +2,10 @@
 #![tactic(auto)]
 
 use anyhow::{bail, ensure};
+use blocks::benched::Benched;
 use cases::case;
 use cases::named::Named;
+use layered::pile::Pile;
 use std::alloc::{AllocError, Global};
 use std::path::Path;
 use std::{env, fs};
@@ -11,14 +13,18 @@ use tally::Tally;
 use tally::report::Report;
 use trials::room::Room;
 
-// Whether the cases of a text are blocks of lines.
-fn has_blocks(text: &str) -> bool {
-    text.lines().any(|line| line.starts_with("memory "))
+// Whether the cases of a text are blocks that begin with a word.
+fn has_blocks(text: &str, word: &str) -> bool {
+    text.lines()
+        .filter_map(|line| line.strip_prefix(word))
+        .any(|rest| rest.starts_with(' '))
 }
 
 fn report_on(heap: Global, room: &mut Room, text: &str) -> Result<Report, AllocError> {
-    if has_blocks(text) {
-        blocks::run(heap, text)
+    if has_blocks(text, "memory") {
+        blocks::run::<Pile>(heap, text)
+    } else if has_blocks(text, "bench") {
+        blocks::run::<Benched>(heap, text)
     } else {
         case::run(heap, room, text)
     }
