@@ -17,12 +17,11 @@ impl<M: Memory> Bench<M> {
         ensures answer { answered_by Word result ≡ answer (Look table index) (view M.model self.old) }
         ensures after { view M.model self.new ≡ after (Look table index) (view M.model self.old) }
     {
-        let window = self.table(table)?;
+        self.table(table)?;
         if self.is_secret(table) {
             return Err(Reason::SecretTable.into());
         }
-        self.allow(Access::Read, window, index)?;
-        Ok(fetch(&mut self.memory, window, index))
+        self.open(table, index)
     }
 
     /// Reads a cell of any table.

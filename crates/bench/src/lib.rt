@@ -1,12 +1,12 @@
 // A bench: a program on a memory, and the calls of its user.
 #![tactic(auto)]
 
-pub mod asking;
+mod asking;
 pub mod bench;
-pub mod calling;
-pub mod lists;
-pub mod making;
-pub mod running;
-pub mod seating;
-pub mod setting;
+mod calling;
+mod lists;
+mod making;
+mod running;
+mod seating;
+mod setting;
 mod tables;

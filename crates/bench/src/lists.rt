@@ -18,7 +18,7 @@ use std::mem;
 // A list is empty only while it is lent, and an empty one takes nothing from the heap.
 /// Room for the longest program that an image has, and for the longest that a source becomes.
 #[derive(Drop)]
-pub struct Lists {
+pub(crate) struct Lists {
     heap: Global,
     pub(crate) source: Vec<Instruction>,
     pub(crate) result: Vec<Instruction>,
@@ -32,7 +32,7 @@ fn longest(heap: Global) -> Result<Vec<Instruction>, AllocError>
 }
 
 impl Lists {
-    pub fn new(heap: Global) -> Result<Lists, AllocError>
+    pub(crate) fn new(heap: Global) -> Result<Lists, AllocError>
         ensures { IfOk result (λ l. (length l.source.items ≡ 3000) × (length l.result.items ≡ 3000)) }
     {
         let source = longest(heap)?;
