@@ -1,0 +1,5 @@
+pub mod Numbers
+pub mod Orders
+pub mod Wording
+pub mod Words
+pub mod Scripts
