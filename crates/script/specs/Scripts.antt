@@ -2,7 +2,7 @@
 use Rattle.std.specs.Prelude.{ℕ, suc, cond, ◌||◌, List, [], ◌∷◌, map, length, Some, None, Ok, Err, Option, Result, vec_items, ◌==◌, slice_index}
 use Rattle.std.specs.Str.{trim}
 use Rattle.script.specs.declared.script.Line.{Line}
-use Rattle.script.specs.declared.script.Stop.{Stop}
+use Rattle.script.specs.declared.unread.Stop.{Stop}
 use Rattle.script.specs.declared.script.Script.{Script}
 use Rattle.script.specs.declared.unread.Unread.{Unread}
 use Rattle.script.specs.Orders.{Asked, asked, read_as}

@@ -5,15 +5,8 @@ ghost use Rattle.script.specs.Orders.{asked_of};
 ghost use Rattle.script.specs.Scripts.{line_asks, told, told_from};
 
 use crate::order::Order;
-use crate::unread::Unread;
+use crate::unread::{Stop, Unread};
 use std::alloc::{AllocError, Global};
-
-/// A line that is no call, by its number from 1 on, and why.
-#[derive(Clone, Copy, PartialEq, Eq, Debug)]
-pub struct Stop {
-    pub line: usize,
-    pub why: Unread,
-}
 
 /// A line that asks for something, with its number from 1 on.
 #[derive(Drop)]
