@@ -5,7 +5,7 @@
 ghost use Rattle.std.specs.Prelude.{◌≤◌, IfOk};
 
 mod bench_call;
-pub mod benched;
+mod benched;
 mod block;
 mod held;
 mod line_error;

@@ -2,7 +2,7 @@
 #![tactic(auto)]
 
 use anyhow::{bail, ensure};
-use blocks::benched::Benched;
+use bench::bench::Bench;
 use cases::case;
 use cases::named::Named;
 use layered::pile::Pile;
@@ -24,7 +24,7 @@ fn report_on(heap: Global, room: &mut Room, text: &str) -> Result<Report, AllocE
     if has_blocks(text, "memory") {
         blocks::run::<Pile>(heap, text)
     } else if has_blocks(text, "bench") {
-        blocks::run::<Benched>(heap, text)
+        blocks::run::<Bench<Pile>>(heap, text)
     } else {
         case::run(heap, room, text)
     }
