@@ -1,5 +1,5 @@
 // An entry of a log: what a call answered, and what was then seen.
-ghost use Rattle.std.specs.Prelude.{◌≡◌, IfOk};
+ghost use Rattle.std.specs.Prelude.{◌≡◌, IfOk, MatchResult};
 ghost use Rattle.calls.specs.Calls.{after};
 ghost use Rattle.bench.specs.Views.{view};
 ghost use Rattle.player.specs.Entries.{room_of, made_by, shown, noted};
@@ -48,14 +48,14 @@ fn made_by(call: &Call, answer: Result<Answer, Refusal>) -> usize
     }
 }
 
-/// Does a call on a bench.
+/// Does a call on a bench; where the heap has no room for its visits, nothing is done.
 pub fn enter<M: Memory>(
     heap: Global,
     bench: &mut Bench<M>,
     call: &Call,
 ) -> Result<Entry, AllocError>
     ensures entry { IfOk result (λ e. shown e ≡ noted call.now (view M.model bench.old)) }
-    ensures after { IfOk result (λ _. view M.model bench.new ≡ after call.now (view M.model bench.old)) }
+    ensures after { MatchResult result (λ _. view M.model bench.new ≡ after call.now (view M.model bench.old)) (λ _. view M.model bench.new ≡ view M.model bench.old) }
 {
     let mut visits = vec![in heap; UNVISITED; room_of(call)]?;
     let answer = bench.call(call, &mut visits);

@@ -15,7 +15,7 @@ fn digits(text: &str) -> (u32, &str)
 }
 
 /// A table, an index, a register or a room.
-pub fn number(text: &str) -> Option<usize>
+pub(crate) fn number(text: &str) -> Option<usize>
     ensures { result ≡ number_of 64 text.now }
 {
     let (base, digits) = digits(text);
@@ -23,7 +23,7 @@ pub fn number(text: &str) -> Option<usize>
 }
 
 /// A word of a cell or of a register.
-pub fn word(text: &str) -> Option<u32>
+pub(crate) fn word(text: &str) -> Option<u32>
     ensures { result ≡ number_of 32 text.now }
 {
     let (base, digits) = digits(text);
