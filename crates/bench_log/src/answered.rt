@@ -1,4 +1,5 @@
 // What a call answered, in words.
+use crate::taken::Kind;
 use calls::{Answer, Ending, Tally};
 use program::refusal::Refusal;
 use report::ran::Registers;
@@ -6,15 +7,15 @@ use std::fmt;
 
 /// An answer, to be shown. What a seat counts is the most of the program.
 #[derive(Clone, Copy)]
-pub struct Answered {
-    pub seats: bool,
+pub(crate) struct Answered {
+    pub kind: Kind,
     pub answer: Result<Answer, Refusal>,
 }
 
 impl fmt::Display for Answered {
     fn fmt<W: fmt::Write>(&self, f: &mut fmt::Formatter<W>) -> fmt::Result {
         match self.answer {
-            Ok(answer) => write_answer(answer, self.seats, f),
+            Ok(answer) => write_answer(answer, self.kind, f),
             Err(refusal) => {
                 let why = refusal.reason;
                 write!(f, "    {refusal}: {why}")
@@ -25,24 +26,20 @@ impl fmt::Display for Answered {
 
 fn write_answer<W: fmt::Write>(
     answer: Answer,
-    seats: bool,
+    kind: Kind,
     f: &mut fmt::Formatter<W>,
 ) -> fmt::Result {
     match answer {
         Answer::Done => f.write_str("    ok"),
-        Answer::Counts { tally } => write_counts(tally, seats, f),
+        Answer::Counts { tally } => write_counts(tally, kind, f),
         Answer::Word { word } => write!(f, "    ok: {word}, 0x{word:x}"),
         Answer::Ended { ending } => write_ending(ending, f),
     }
 }
 
-fn write_counts<W: fmt::Write>(
-    tally: Tally,
-    seats: bool,
-    f: &mut fmt::Formatter<W>,
-) -> fmt::Result {
+fn write_counts<W: fmt::Write>(tally: Tally, kind: Kind, f: &mut fmt::Formatter<W>) -> fmt::Result {
     let Tally { steps, marks } = tally;
-    if seats {
+    if kind == Kind::Seat {
         write!(f, "    ok: most steps {steps}, most marks {marks}")
     } else {
         write!(f, "    ok: steps {steps}, marks {marks}")

@@ -2,10 +2,12 @@
 // answered and showed.
 #![tactic(auto)]
 
+mod added;
 mod answered;
 mod taken;
 mod totals;
 
+use added::Added;
 use answered::Answered;
 use anyhow::bail;
 use layered::pile::Pile;
@@ -17,7 +19,7 @@ use player::play::{Played, play};
 use report::ran::VisitLine;
 use script::script::Script;
 use std::{env, fs};
-use taken::{Taken, Told, take};
+use taken::{Kind, Taken, Told, take};
 use totals::Totals;
 
 fn arguments(rt: &HostRuntime) -> anyhow::Result<(String, String)> {
@@ -36,35 +38,39 @@ fn pile_of(rt: &HostRuntime, name: &str) -> anyhow::Result<Pile> {
     }
 }
 
-// A call as it was read, what it answered, and what it showed: marks are those that it added to so many.
-fn show(rt: &HostRuntime, told: &Told, entry: &Entry, before: usize) -> anyhow::Result<()> {
+// A call as it was read, what it answered, and each visit of a go.
+fn show(rt: &HostRuntime, told: &Told, entry: &Entry) -> anyhow::Result<()> {
     let number = told.number;
     let text = told.text;
     println!(rt; "{number}: {text}")?;
     rt.println(Answered {
-        seats: told.seats,
+        kind: told.kind,
         answer: entry.answer,
     })?;
     for visit in entry.visits.iter() {
         let visit = VisitLine { visit: *visit };
         println!(rt; "    {visit}")?;
     }
-    let added = entry.marks.saturating_sub(before);
-    println!(rt; "    marks added {added}")?;
     Ok(())
 }
 
+// A memory has the marks since the last clear; those before are only counted.
 fn show_all(rt: &HostRuntime, told: &[Told], played: &Played<Pile>) -> anyhow::Result<()> {
+    let memory = &played.memory;
+    let last_clear = told.iter().rposition(|told| told.kind == Kind::Clear);
     let mut totals = Totals::default();
-    for (told, entry) in told.iter().zip(&played.log) {
-        show(rt, told, entry, totals.seen)?;
+    for (index, (told, entry)) in told.iter().zip(&played.log).enumerate() {
+        show(rt, told, entry)?;
+        rt.println(Added {
+            memory,
+            before: totals.seen,
+            after: entry.marks,
+            kept: last_clear.is_none_or(|clear| clear < index),
+        })?;
         totals.add(entry);
     }
     rt.println(totals)?;
-    let seen = Seen {
-        memory: &played.memory,
-    };
-    println!(rt; "marks seen: {seen}")?;
+    println!(rt; "marks seen: {}", Seen { memory })?;
     Ok(())
 }
 

@@ -6,18 +6,25 @@ use script::unread::Stop;
 use std::alloc::AllocError;
 use std::{fmt, fs};
 
+/// What a log has to know of a call.
+#[derive(Clone, Copy, PartialEq, Eq)]
+pub(crate) enum Kind {
+    Seat,
+    Clear,
+    Other,
+}
+
 /// A call as its line tells it.
-#[derive(Drop)]
-pub struct Told<'a> {
+#[derive(Clone, Copy)]
+pub(crate) struct Told<'a> {
     pub number: usize,
     pub text: &'a str,
-    /// Whether it seats a program.
-    pub seats: bool,
+    pub kind: Kind,
 }
 
 /// Why the calls end before the script does.
 #[derive(Clone, Copy)]
-pub enum Halt<'a> {
+pub(crate) enum Halt<'a> {
     NoCall(Stop),
     /// The file of an image cannot be read.
     NoImage { number: usize, text: &'a str },
@@ -37,10 +44,18 @@ impl fmt::Display for Halt<'_> {
 // The calls stand by themselves, since they are played as a list.
 /// The calls, and how the script tells each.
 #[derive(Drop)]
-pub struct Taken<'a> {
+pub(crate) struct Taken<'a> {
     pub told: Vec<Told<'a>>,
     pub calls: Vec<Call>,
     pub halt: Option<Halt<'a>>,
+}
+
+fn kind_of(call: &Call) -> Kind {
+    match call {
+        Call::Seat { .. } => Kind::Seat,
+        Call::Clear => Kind::Clear,
+        _ => Kind::Other,
+    }
 }
 
 // The call that a line asks for, unless it names a file that cannot be read.
@@ -54,7 +69,7 @@ fn call_of(rt: &HostRuntime, order: Order) -> Option<Call> {
 }
 
 /// The calls of a script, up to the first whose image cannot be read.
-pub fn take<'a>(rt: &HostRuntime, script: Script<'a>) -> Result<Taken<'a>, AllocError> {
+pub(crate) fn take<'a>(rt: &HostRuntime, script: Script<'a>) -> Result<Taken<'a>, AllocError> {
     let mut told = Vec::new(rt.alloc());
     let mut calls = Vec::new(rt.alloc());
     let Script { lines, stop } = script;
@@ -69,14 +84,13 @@ pub fn take<'a>(rt: &HostRuntime, script: Script<'a>) -> Result<Taken<'a>, Alloc
             let halt = Some(Halt::NoImage { number, text });
             return Ok(Taken { told, calls, halt });
         };
-        let seats = matches!(call, Call::Seat { .. });
         told.push(Told {
             number,
             text,
-            seats,
+            kind: kind_of(&call),
         })?;
         calls.push(call)?;
     }
-    let halt = stop.map(Halt::NoCall);
+    let halt = stop.map(|stop| Halt::NoCall(stop));
     Ok(Taken { told, calls, halt })
 }
