@@ -34,8 +34,8 @@ fn put(image: &mut Vec<u8>, at: usize, value: u8) {
 // The calls of a text, where every file holds this image.
 fn calls_of(heap: Global, script: Script<'_>, image: &Vec<u8>) -> Result<Vec<Call>, AllocError> {
     let mut calls = Vec::new(heap);
-    for order in script.orders {
-        calls.push(match order {
+    for line in script.lines {
+        calls.push(match line.order {
             Order::Seat { file: _ } => Call::Seat {
                 image: image.clone()?,
             },
@@ -137,7 +137,7 @@ fn a_secret_if(rt: HostRuntime) -> Result<(), Fail> {
 fn a_text_stops_at_a_line(rt: HostRuntime) -> Result<(), Fail> {
     let heap = rt.alloc();
     let script = Script::read(heap, "clear\n\nput 0 1\ngo")?;
-    assert_eq!(rt; script.orders.len(), 1);
+    assert_eq!(rt; script.lines.len(), 1);
     let stop = Stop {
         line: 3,
         why: Unread::NotItsArguments,

@@ -11,10 +11,10 @@ pub stripped : (r : Option (Bor (List ℕ))) (s n : List ℕ) → MatchOption r 
 stripped None s n h = starts_text false n s h
 stripped (Some x) s n h = starts_text true n s (h.0, h.1, subst (IsCharBoundary s) (sym h.1.0) h.1.2)
 
-pub blocks_more : (inside next : Bool) (ls : List (List ℕ)) (k m : ℕ) (x : List ℕ) (n total : ℕ) → k < length ls → x ≡ get_or ls k x → next ≡ open_after inside x → m ≡ k + 1 → n + blocks_among inside (drop k ls) ≡ total
-    → (n + closed_at inside x) + blocks_among next (drop m ls) ≡ total
-blocks_more inside next ls k m x n total lt is after one inv =
-    let step : blocks_among inside (drop k ls) ≡ closed_at inside (get_or ls k x) + blocks_among (open_after inside (get_or ls k x)) (drop (k + 1) ls) = at_drop_more (blocks_among inside) ls k x lt in
-    let there : closed_at inside (get_or ls k x) + blocks_among (open_after inside (get_or ls k x)) (drop (k + 1) ls) ≡ closed_at inside x + blocks_among (open_after inside x) (drop (k + 1) ls) = ap (λ v. closed_at inside v + blocks_among (open_after inside v) (drop (k + 1) ls)) (sym is) in
-    let rest : blocks_among next (drop m ls) ≡ blocks_among (open_after inside x) (drop (k + 1) ls) = λ t. blocks_among (after t) (drop (one t) ls) in
+pub blocks_more : (head : List ℕ) (inside next : Bool) (ls : List (List ℕ)) (k m : ℕ) (x : List ℕ) (n total : ℕ) → k < length ls → x ≡ get_or ls k x → next ≡ open_after head inside x → m ≡ k + 1 → n + blocks_among head inside (drop k ls) ≡ total
+    → (n + closed_at head inside x) + blocks_among head next (drop m ls) ≡ total
+blocks_more head inside next ls k m x n total lt is after one inv =
+    let step : blocks_among head inside (drop k ls) ≡ closed_at head inside (get_or ls k x) + blocks_among head (open_after head inside (get_or ls k x)) (drop (k + 1) ls) = at_drop_more (blocks_among head inside) ls k x lt in
+    let there : closed_at head inside (get_or ls k x) + blocks_among head (open_after head inside (get_or ls k x)) (drop (k + 1) ls) ≡ closed_at head inside x + blocks_among head (open_after head inside x) (drop (k + 1) ls) = ap (λ v. closed_at head inside v + blocks_among head (open_after head inside v) (drop (k + 1) ls)) (sym is) in
+    let rest : blocks_among head next (drop m ls) ≡ blocks_among head (open_after head inside x) (drop (k + 1) ls) = λ t. blocks_among head (after t) (drop (one t) ls) in
     omega (arith, step ∙ there, rest, inv)

@@ -2,32 +2,31 @@
 ghost use Rattle.std.specs.Prelude.{ℕ, ◌+◌, IfOk};
 ghost use Rattle.counted.specs.Counted.{Counted};
 
-use crate::calls::call_of;
+use crate::held::Held;
 use crate::line_error::LineError;
 use crate::lines::{Asked, Line};
 use counted::{agrees, differs};
 use layered::leaves::into_cells;
-use layered::pile;
-use layered::pile::Pile;
+use layered::pile::into_leaf;
+use makes::named;
 use makes::named::Unnamed;
 use makes::shown::{Seen, Words};
-use makes::{call, named};
 use std::alloc::{AllocError, Global};
 use std::fmt;
 use tally::report::Report;
 
 /// A block whose end is still to come.
 #[derive(Drop)]
-pub struct Block {
+pub struct Block<H> {
     id: String,
-    state: State,
+    state: State<H>,
 }
 
 #[derive(Drop)]
-enum State {
-    /// Lines are held to what a memory answers.
-    Open { pile: Pile, seen: bool },
-    /// The cells were looked at, and the memory is gone.
+enum State<H> {
+    /// Lines are held to what is answered.
+    Open { held: H, seen: bool },
+    /// The cells were looked at, and what was held is gone.
     Emptied { seen: bool },
     /// A line does not agree.
     Wrong { why: String },
@@ -51,12 +50,12 @@ impl fmt::Display for Missing {
     }
 }
 
-impl Block {
-    pub(crate) fn begin(heap: Global, head: Line) -> Result<Block, AllocError> {
-        // Where no make stands behind the id, `pile_of` says that it cannot be read.
+impl<H: Held + Drop> Block<H> {
+    pub(crate) fn begin(heap: Global, head: Line) -> Result<Block<H>, AllocError> {
+        // Where no make stands behind the id, `held_of` says that it cannot be read.
         let (id, rest) = head.text.split_once(' ').unwrap_or((head.text, ""));
-        let state = match pile_of(heap, rest) {
-            Ok(pile) => State::Open { pile, seen: false },
+        let state = match held_of(heap, rest) {
+            Ok(held) => State::Open { held, seen: false },
             Err(error) => State::Wrong {
                 why: error.text(heap, head)?,
             },
@@ -77,7 +76,7 @@ impl Block {
     }
 
     /// The block after a line.
-    pub(crate) fn after(self, heap: Global, line: Line) -> Result<Block, AllocError> {
+    pub(crate) fn after(self, heap: Global, line: Line) -> Result<Block<H>, AllocError> {
         let Block { id, state } = self;
         let state = hold(heap, state, line)?;
         Ok(Block { id, state })
@@ -85,9 +84,10 @@ impl Block {
 }
 
 /// Counts a block, which agrees if no line was wrong and nothing is missing.
-pub(crate) fn close(
+pub(crate) fn close<H: Held + Drop>(
     heap: Global,
-    block: Block,
+    head: &str,
+    block: Block<H>,
     missing: Option<Missing>,
     report: &mut Report,
 ) -> Result<(), AllocError>
@@ -95,8 +95,8 @@ pub(crate) fn close(
 {
     let Block { id, state } = block;
     match (state, missing) {
-        (State::Wrong { why }, _) => differs(report, format!(in heap; "memory {id}: {why}")?),
-        (_, Some(missing)) => differs(report, format!(in heap; "memory {id}: {missing}")?),
+        (State::Wrong { why }, _) => differs(report, format!(in heap; "{head}{id}: {why}")?),
+        (_, Some(missing)) => differs(report, format!(in heap; "{head}{id}: {missing}")?),
         (_, None) => {
             agrees(report);
             Ok(())
@@ -104,14 +104,15 @@ pub(crate) fn close(
     }
 }
 
-// The pile of `MAKE cells=WORDS`.
-fn pile_of(heap: Global, text: &str) -> Result<Pile, LineError> {
+// What is held over the pile of `MAKE cells=WORDS`.
+fn held_of<H: Held>(heap: Global, text: &str) -> Result<H, LineError> {
     let (name, cells) = text.split_once(" cells=").ok_or(Unnamed::Unreadable)?;
-    Ok(named::pile(heap, name.parse()?, cells)?)
+    let pile = named::pile(heap, name.parse()?, cells)?;
+    Ok(H::over(heap, pile)?)
 }
 
 // Holds a line to what it should be, unless one before it was wrong.
-fn hold(heap: Global, state: State, line: Line) -> Result<State, AllocError> {
+fn hold<H: Held + Drop>(heap: Global, state: State<H>, line: Line) -> Result<State<H>, AllocError> {
     if let State::Wrong { why } = state {
         return Ok(State::Wrong { why });
     }
@@ -131,23 +132,30 @@ fn hold(heap: Global, state: State, line: Line) -> Result<State, AllocError> {
 }
 
 // What is asked for, and the state after it.
-fn got(heap: Global, state: State, asked: Asked) -> Result<(State, String), LineError> {
-    let State::Open { mut pile, seen } = state else {
+fn got<H: Held + Drop>(
+    heap: Global,
+    state: State<H>,
+    asked: Asked,
+) -> Result<(State<H>, String), LineError> {
+    let State::Open { mut held, seen } = state else {
         return Err(LineError::Unreadable);
     };
     match asked {
         Asked::Cells => {
-            let cells = into_cells(pile::into_leaf(pile), heap)?;
+            let cells = into_cells(into_leaf(held.into_pile()), heap)?;
             let text = Words { words: &cells }.to_string(heap)?;
             Ok((State::Emptied { seen }, text))
         }
         Asked::Seen => {
-            let text = Seen { memory: &pile }.to_string(heap)?;
-            Ok((State::Open { pile, seen: true }, text))
+            let text = Seen {
+                memory: held.pile(),
+            }
+            .to_string(heap)?;
+            Ok((State::Open { held, seen: true }, text))
         }
         Asked::Call(words) => {
-            let text = call::perform(&mut pile, call_of(heap, words)?).to_string(heap)?;
-            Ok((State::Open { pile, seen }, text))
+            let text = held.answer(heap, words)?;
+            Ok((State::Open { held, seen }, text))
         }
     }
 }

@@ -1,5 +1,6 @@
 // Why a line comes to nothing.
 use crate::lines::Line;
+use hexadecimal::DecodeError;
 use makes::named::Unnamed;
 use makes::words::WordsError;
 use std::alloc::{AllocError, Global};
@@ -52,6 +53,15 @@ impl From<WordsError> for LineError {
         match why {
             WordsError::Unreadable => LineError::Unnamed(Unnamed::Unreadable),
             WordsError::OutOfMemory(full) => LineError::OutOfMemory(full),
+        }
+    }
+}
+
+impl From<DecodeError> for LineError {
+    fn from(why: DecodeError) -> LineError {
+        match why {
+            DecodeError::NotHexadecimal => LineError::Unreadable,
+            DecodeError::OutOfMemory(full) => LineError::OutOfMemory(full),
         }
     }
 }

@@ -11,8 +11,8 @@ pub struct Words<'a> {
 
 /// A word in hexadecimal.
 #[derive(Clone, Copy)]
-struct Word {
-    word: u32,
+pub struct Word {
+    pub word: u32,
 }
 
 impl fmt::Display for Word {

@@ -8,10 +8,18 @@ use crate::order::Order;
 use crate::unread::{Stop, Unread};
 use std::alloc::{AllocError, Global};
 
+/// A line that asks for something, with its number from 1 on.
+#[derive(Drop)]
+pub struct Line<'a> {
+    pub number: usize,
+    pub text: &'a str,
+    pub order: Order<'a>,
+}
+
 /// What a text asks for, up to the first line that is no call, if there is one.
 #[derive(Drop)]
 pub struct Script<'a> {
-    pub orders: Vec<Order<'a>>,
+    pub lines: Vec<Line<'a>>,
     pub stop: Option<Stop>,
 }
 
@@ -37,14 +45,18 @@ impl<'a> Script<'a> {
     pub fn read(heap: Global, text: &'a str) -> Result<Script<'a>, AllocError>
         ensures { IfOk result (λ s. told s ≡ told_from 1 (lines text.now)) }
     {
-        let lines = lines(heap, text)?;
-        let mut orders = Vec::new(heap);
-        for (index, line) in lines.iter().enumerate() {
-            match order(line) {
-                Some(Ok(order)) => orders.push(order)?,
+        let all = lines(heap, text)?;
+        let mut lines = Vec::new(heap);
+        for (index, text) in all.iter().enumerate() {
+            match order(text) {
+                Some(Ok(order)) => lines.push(Line {
+                    number: index + 1,
+                    text,
+                    order,
+                })?,
                 Some(Err(why)) => {
                     return Ok(Script {
-                        orders,
+                        lines,
                         stop: Some(Stop {
                             line: index + 1,
                             why,
@@ -54,6 +66,6 @@ impl<'a> Script<'a> {
                 None => (),
             }
         }
-        Ok(Script { orders, stop: None })
+        Ok(Script { lines, stop: None })
     }
 }

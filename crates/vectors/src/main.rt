@@ -2,8 +2,10 @@
 #![tactic(auto)]
 
 use anyhow::{bail, ensure};
+use bench::bench::Bench;
 use cases::case;
 use cases::named::Named;
+use layered::pile::Pile;
 use std::alloc::{AllocError, Global};
 use std::path::Path;
 use std::{env, fs};
@@ -11,14 +13,22 @@ use tally::Tally;
 use tally::report::Report;
 use trials::room::Room;
 
-// Whether the cases of a text are blocks of lines.
-fn has_blocks(text: &str) -> bool {
-    text.lines().any(|line| line.starts_with("memory "))
+/// What the first line of a block of a memory begins with.
+const MEMORY: &str = "memory ";
+
+/// What the first line of a block of a bench begins with.
+const BENCH: &str = "bench ";
+
+// Whether the cases of a text are blocks that begin so.
+fn has_blocks(text: &str, head: &str) -> bool {
+    text.lines().any(|line| line.starts_with(head))
 }
 
 fn report_on(heap: Global, room: &mut Room, text: &str) -> Result<Report, AllocError> {
-    if has_blocks(text) {
-        blocks::run(heap, text)
+    if has_blocks(text, MEMORY) {
+        blocks::run::<Pile>(heap, MEMORY, text)
+    } else if has_blocks(text, BENCH) {
+        blocks::run::<Bench<Pile>>(heap, BENCH, text)
     } else {
         case::run(heap, room, text)
     }

@@ -5,4 +5,4 @@ use Rattle.blocks.specs.Numbers.{blocks_among}
 use Rattle.blocks.proofs.run.Given as goal
 
 abbrev pub invariant-loop-line : goal.invariant-loop-line
-invariant-loop-line l = (n : ℕ) × Counted n l.report × (n + blocks_among (is_some l.block) (drop (length l.yielded) (lines l.text)) ≡ blocks_among false (lines l.text))
+invariant-loop-line g l = (n : ℕ) × Counted n l.report × (n + blocks_among l.head.now (is_some l.block) (drop (length l.yielded) (lines l.text)) ≡ blocks_among l.head.now false (lines l.text))

@@ -1,0 +1,54 @@
+// Calls of a bench, as lines have them.
+use crate::line_error::LineError;
+use calls::Call;
+use std::alloc::Global;
+
+/// The longest visit list that a go may ask for.
+const MOST_VISITS: usize = 1_000_000;
+
+pub(crate) fn call_of(heap: Global, text: &str) -> Result<Call, LineError> {
+    let words: Vec<&str> = text.split(' ').collect(heap)?;
+    Ok(match words.as_slice() {
+        ["seat", image] => Call::Seat {
+            image: bytes(heap, image)?,
+        },
+        ["put", table, index, word] => Call::Put {
+            table: table.parse()?,
+            index: index.parse()?,
+            word: u32::from_str_radix(word, 16)?,
+        },
+        ["arg", register, word] => Call::Arg {
+            register: register.parse()?,
+            word: u32::from_str_radix(word, 16)?,
+        },
+        ["go", room] => Call::Go {
+            room: length(room)?,
+        },
+        ["look", table, index] => Call::Look {
+            table: table.parse()?,
+            index: index.parse()?,
+        },
+        ["open", table, index] => Call::Open {
+            table: table.parse()?,
+            index: index.parse()?,
+        },
+        ["outcome"] => Call::Outcome,
+        ["clear"] => Call::Clear,
+        _ => return Err(LineError::Unreadable),
+    })
+}
+
+// The bytes of a text, `-` for none.
+fn bytes(heap: Global, text: &str) -> Result<Vec<u8>, LineError> {
+    if text == "-" {
+        return Ok(Vec::new(heap));
+    }
+    Ok(hexadecimal::decode(heap, text.as_bytes())?)
+}
+
+fn length(text: &str) -> Result<usize, LineError> {
+    match text.parse::<usize>() {
+        Ok(length) if length <= MOST_VISITS => Ok(length),
+        _ => Err(LineError::Unreadable),
+    }
+}
