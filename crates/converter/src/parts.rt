@@ -1,5 +1,5 @@
 // Which part of the result each place became.
-ghost use Rattle.std.specs.Prelude.{◌≡◌, ℕ, ◌<◌, Bool, true, [], length, sum, IfOk};
+ghost use Rattle.std.specs.Prelude.{◌≡◌, ℕ, ◌<◌, Bool, true, [], length, take, drop, sum, slice_index, IfOk};
 ghost use Rattle.program.specs.Bounds.{bound};
 ghost use Rattle.program.specs.Headers.{is_source};
 ghost use Rattle.program.specs.declared.refusal.Reason.TheVariants.{NotASource};
@@ -9,7 +9,7 @@ ghost use Rattle.labels.specs.Sets.{sets};
 ghost use Rattle.groups.specs.Groups.{lengths};
 ghost use Rattle.conversion.specs.Conversion.{becomes};
 ghost use Rattle.converter.specs.Converting.{result_of};
-ghost use Rattle.converter.specs.Parts.{part_lengths, parts_of};
+ghost use Rattle.converter.specs.Parts.{part_lengths, part_of, parts_of};
 
 use crate::labelled::Labelled;
 use crate::places::convert_one;
@@ -50,6 +50,7 @@ fn part_lengths(source: &Labelled) -> ArrayVec<usize, 200>
 pub fn parts_of(source: &Program) -> Result<ArrayVec<usize, 200>, Refusal>
     ensures answer { refused_by result ≡ unless (is_source source.now.header.kind) NotASource 0 }
     ensures whole { IfOk result (λ parts. sum parts.items ≡ length (result_of source.now.header (code_of source.now))) }
+    ensures each { IfOk result (λ parts. (k : ℕ) → k < length (code_of source.now) → take (slice_index parts.items k) (drop (sum (take k parts.items)) (result_of source.now.header (code_of source.now))) ≡ part_of source.now.header (code_of source.now) k) }
     ensures parts { IfOk result (λ parts. parts.items ≡ parts_of source.now.header (code_of source.now)) }
 {
     // A source has at most 200 places, and nothing is allocated.
