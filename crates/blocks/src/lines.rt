@@ -16,6 +16,7 @@ pub enum Asked<'a> {
 }
 
 impl<'a> Line<'a> {
+    // A line with no " = " expects nothing that any answer could be, so an empty text says it.
     /// What the line asks for, and what it expects.
     pub(crate) fn parts(self) -> (Asked<'a>, &'a str) {
         if let Some(marks) = self.text.strip_prefix("seen ") {

@@ -4,7 +4,7 @@ use cases::visits::Visits;
 use machine::visit::Visit;
 use makes::call;
 use makes::commas::with_commas;
-use makes::shown::Word;
+use makes::hex::Hex;
 use program::refusal::Refusal;
 use std::fmt;
 
@@ -52,5 +52,5 @@ fn write_answer<W: fmt::Write>(answer: Answer, f: &mut fmt::Formatter<W>) -> fmt
 fn write_ending<W: fmt::Write>(ending: Ending, f: &mut fmt::Formatter<W>) -> fmt::Result {
     let fault = [ending.fault];
     let words = ending.registers.iter().chain(fault.iter());
-    with_commas(f, words.map(|word| Word { word: *word }))
+    with_commas(f, words.map(|word| Hex { number: *word }))
 }

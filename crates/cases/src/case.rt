@@ -79,6 +79,7 @@ impl<'a> Case<'a> {
     }
 }
 
+// The heap goes beside the room: most ways of a case need no room.
 /// Runs all cases of a text, one to a line. Blank lines are no cases, and a line that is none otherwise
 /// counts as one that differs. At most three notes are kept.
 pub fn run(heap: Global, room: &mut Room, text: &str) -> Result<Report, AllocError>

@@ -1,5 +1,6 @@
 // A plan as text.
 use makes::commas::with_commas;
+use makes::hex::Hex;
 use std::fmt;
 
 /// Sets of registers as hexadecimal numbers, separated by commas.
@@ -8,20 +9,8 @@ pub struct Labels<'a> {
     pub labels: &'a [u16],
 }
 
-#[derive(Clone, Copy)]
-struct Label {
-    set: u16,
-}
-
-impl fmt::Display for Label {
-    fn fmt<W: fmt::Write>(&self, f: &mut fmt::Formatter<W>) -> fmt::Result {
-        let set = self.set;
-        write!(f, "{set:x}")
-    }
-}
-
 impl fmt::Display for Labels<'_> {
     fn fmt<W: fmt::Write>(&self, f: &mut fmt::Formatter<W>) -> fmt::Result {
-        with_commas(f, self.labels.iter().map(|set| Label { set: *set }))
+        with_commas(f, self.labels.iter().map(|set| Hex { number: *set }))
     }
 }

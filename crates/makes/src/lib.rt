@@ -4,6 +4,7 @@
 pub mod built;
 pub mod call;
 pub mod commas;
+pub mod hex;
 pub mod make;
 pub mod named;
 pub mod shown;

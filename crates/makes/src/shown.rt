@@ -1,5 +1,6 @@
 // Words and marks as text.
 use crate::commas::with_commas;
+use crate::hex::Hex;
 use memory::Memory;
 use std::fmt;
 
@@ -7,19 +8,6 @@ use std::fmt;
 #[derive(Clone, Copy)]
 pub struct Words<'a> {
     pub words: &'a [u32],
-}
-
-/// A word in hexadecimal.
-#[derive(Clone, Copy)]
-pub struct Word {
-    pub word: u32,
-}
-
-impl fmt::Display for Word {
-    fn fmt<W: fmt::Write>(&self, f: &mut fmt::Formatter<W>) -> fmt::Result {
-        let word = self.word;
-        write!(f, "{word:x}")
-    }
 }
 
 // How many words there are up to the last that is not 0.
@@ -41,7 +29,7 @@ impl fmt::Display for Words<'_> {
             self.words
                 .iter()
                 .take(count)
-                .map(|word| Word { word: *word }),
+                .map(|word| Hex { number: *word }),
         )
     }
 }
