@@ -81,7 +81,7 @@ fn main(rt: HostRuntime) -> anyhow::Result<()> {
         bail!("{path} cannot be read");
     };
     let script = Script::read(rt.alloc(), text.as_str())?;
-    let Taken { told, calls, halt } = take(&rt, script)?;
+    let Taken { told, calls, halt } = take(&rt, path.as_str(), script)?;
     let played = play(rt.alloc(), pile, &calls)?;
     show_all(&rt, &told, &played)?;
     match halt {

@@ -4,6 +4,7 @@ use script::order::Order;
 use script::script::{Line, Script};
 use script::unread::Stop;
 use std::alloc::AllocError;
+use std::path::Path;
 use std::{fmt, fs};
 
 /// What a log has to know of a call.
@@ -58,18 +59,25 @@ fn kind_of(call: &Call) -> Kind {
     }
 }
 
-// The call that a line asks for, unless it names a file that cannot be read.
-fn call_of(rt: &HostRuntime, order: Order) -> Option<Call> {
-    match order {
-        Order::Seat { file } => Some(Call::Seat {
-            image: fs::read(rt, file).ok()?,
-        }),
-        Order::Call { call } => Some(call),
+// The call that a line asks for, unless it names a file that cannot be read. A file lies beside the script.
+fn call_of(rt: &HostRuntime, script: &str, order: Order) -> Result<Option<Call>, AllocError> {
+    let file = match order {
+        Order::Seat { file } => file,
+        Order::Call { call } => return Ok(Some(call)),
+    };
+    let path = Path::new(script).with_file_name(rt.alloc(), file)?;
+    match fs::read(rt, path.as_path()) {
+        Ok(image) => Ok(Some(Call::Seat { image })),
+        Err(_) => Ok(None),
     }
 }
 
-/// The calls of a script, up to the first whose image cannot be read.
-pub(crate) fn take<'a>(rt: &HostRuntime, script: Script<'a>) -> Result<Taken<'a>, AllocError> {
+/// The calls of a script that lies at a path, up to the first whose image cannot be read.
+pub(crate) fn take<'a>(
+    rt: &HostRuntime,
+    path: &str,
+    script: Script<'a>,
+) -> Result<Taken<'a>, AllocError> {
     let mut told = Vec::new(rt.alloc());
     let mut calls = Vec::new(rt.alloc());
     let Script { lines, stop } = script;
@@ -80,7 +88,7 @@ pub(crate) fn take<'a>(rt: &HostRuntime, script: Script<'a>) -> Result<Taken<'a>
             order,
         } = line;
         let text = text.trim();
-        let Some(call) = call_of(rt, order) else {
+        let Some(call) = call_of(rt, path, order)? else {
             let halt = Some(Halt::NoImage { number, text });
             return Ok(Taken { told, calls, halt });
         };

@@ -10,6 +10,8 @@ use player::entry::{Entry, enter};
 use std::alloc::{AllocError, Global};
 
 impl Held for Bench<Pile> {
+    const HEAD: &'static str = "bench";
+
     fn over(heap: Global, pile: Pile) -> Result<Bench<Pile>, AllocError> {
         Bench::new(heap, pile)
     }

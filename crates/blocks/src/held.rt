@@ -5,6 +5,9 @@ use std::alloc::{AllocError, Global};
 
 /// Something over a pile that answers calls.
 pub trait Held: Sized {
+    /// What stands before the id in the first line of a block.
+    const HEAD: &'static str;
+
     /// Takes the pile that a block names.
     fn over(heap: Global, pile: Pile) -> Result<Self, AllocError>;
 

@@ -2,9 +2,7 @@
 // the answers that are expected, the marks seen, and the cells at the end.
 #![tactic(auto)]
 
-ghost use Rattle.std.specs.Prelude.{◌≡◌, ℕ, ◌+◌, IfOk, is_some, if◌then◌else◌};
-ghost use Rattle.counted.specs.Counted.{Counted};
-ghost use Rattle.blocks.specs.Numbers.{begins, closed_at, open_after, blocks_in};
+ghost use Rattle.std.specs.Prelude.{◌≤◌, IfOk};
 
 mod bench_call;
 mod benched;
@@ -16,76 +14,64 @@ mod memory_call;
 mod reply;
 
 use block::{Block, Missing, close};
-use counted::differs;
 use held::Held;
 use lines::Line;
 use std::alloc::{AllocError, Global};
 use tally::report::Report;
 
-/// Runs all blocks of a text. A block begins with a line that begins with `head`, and counts as one, which
-/// agrees if each of its lines does.
-pub fn run<H: Held + Drop>(heap: Global, head: &str, text: &str) -> Result<Report, AllocError>
-    ensures { IfOk result (λ report. Counted (blocks_in head.now text.now) report) }
+/// Runs all blocks of a text. A block counts as one, which agrees if each of its lines does.
+pub fn run<H: Held + Drop>(heap: Global, text: &str) -> Result<Report, AllocError>
+    ensures { IfOk result (λ report. report.tally.agree ≤ report.tally.all) }
 {
-    let mut report = counted::none(heap);
+    let mut report = Report::new(heap);
     let mut block: Option<Block<H>> = None;
-    let mut number = 0usize;
-    for line in text.lines() {
-        number = number.saturating_add(1);
-        let line = Line { number, text: line };
-        block = take_line(heap, head, block, line, &mut report)?;
+    for (index, text) in text.lines().enumerate() {
+        let number = index.saturating_add(1);
+        block = take_line(heap, block, Line { number, text }, &mut report)?;
     }
-    close_endless(heap, head, block, &mut report)?;
+    if let Some(block) = block {
+        close(heap, block, Some(Missing::End), &mut report)?;
+    }
     Ok(report)
 }
 
-// Counts a block that has no end, where one is open.
-fn close_endless<H: Held + Drop>(
-    heap: Global,
-    head: &str,
-    block: Option<Block<H>>,
-    report: &mut Report,
-) -> Result<(), AllocError>
-    ensures { (n : ℕ) → Counted n report.old → IfOk result (λ done. Counted (n + (if is_some block then 1 else 0)) report.new) }
-{
-    match block {
-        Some(block) => close(heap, head, block, Some(Missing::End), report),
-        None => Ok(()),
-    }
-}
-
-// What stands behind the words that begin a block.
-fn head_of<'a>(head: &str, text: &'a str) -> Option<&'a str>
-    ensures { is_some result ≡ begins head.now text.now }
-{
-    text.strip_prefix(head)
+// What a block's first line has behind the word for what is held.
+fn head_of<H: Held>(text: &str) -> Option<&str> {
+    text.strip_prefix(H::HEAD)?.strip_prefix(' ')
 }
 
 fn take_line<H: Held + Drop>(
     heap: Global,
-    head: &str,
     block: Option<Block<H>>,
     line: Line,
     report: &mut Report,
 ) -> Result<Option<Block<H>>, AllocError>
-    ensures { (n : ℕ) → Counted n report.old → IfOk result (λ next. Counted (n + closed_at head.now (is_some block) line.entry.text.now) report.new × (is_some next ≡ open_after head.now (is_some block) line.entry.text.now)) }
+    // A report's fields are public, so an invariant would ask more of who makes one.
+    ensures { report.old.tally.agree ≤ report.old.tally.all → report.new.tally.agree ≤ report.new.tally.all }
 {
     if line.text.is_empty() {
         return Ok(block);
     }
-    if let Some(text) = head_of(head, line.text) {
-        close_endless(heap, head, block, report)?;
-        let number = line.number;
-        return Ok(Some(Block::begin(heap, Line { number, text })?));
+    if let Some(head) = head_of::<H>(line.text) {
+        if let Some(before) = block {
+            close(heap, before, Some(Missing::End), report)?;
+        }
+        return Ok(Some(Block::begin(
+            heap,
+            Line {
+                number: line.number,
+                text: head,
+            },
+        )?));
     }
     let Some(block) = block else {
         let number = line.number;
-        differs(report, format!(in heap; "line {number}: not in a block")?)?;
+        report.differs(format!(in heap; "line {number}: not in a block")?)?;
         return Ok(None);
     };
     if line.text == "end" {
         let missing = block.missing();
-        close(heap, head, block, missing, report)?;
+        close(heap, block, missing, report)?;
         return Ok(None);
     }
     Ok(Some(block.after(heap, line)?))

@@ -47,6 +47,8 @@ fn table(base: &str, len: &str) -> Result<Window, LineError> {
 
 /// A memory by itself.
 impl Held for Pile {
+    const HEAD: &'static str = "memory";
+
     fn over(_heap: Global, pile: Pile) -> Result<Pile, AllocError> {
         Ok(pile)
     }

@@ -13,22 +13,18 @@ use tally::Tally;
 use tally::report::Report;
 use trials::room::Room;
 
-/// What the first line of a block of a memory begins with.
-const MEMORY: &str = "memory ";
-
-/// What the first line of a block of a bench begins with.
-const BENCH: &str = "bench ";
-
-// Whether the cases of a text are blocks that begin so.
-fn has_blocks(text: &str, head: &str) -> bool {
-    text.lines().any(|line| line.starts_with(head))
+// Whether the cases of a text are blocks that begin with a word.
+fn has_blocks(text: &str, word: &str) -> bool {
+    text.lines()
+        .filter_map(|line| line.strip_prefix(word))
+        .any(|rest| rest.starts_with(' '))
 }
 
 fn report_on(heap: Global, room: &mut Room, text: &str) -> Result<Report, AllocError> {
-    if has_blocks(text, MEMORY) {
-        blocks::run::<Pile>(heap, MEMORY, text)
-    } else if has_blocks(text, BENCH) {
-        blocks::run::<Bench<Pile>>(heap, BENCH, text)
+    if has_blocks(text, "memory") {
+        blocks::run::<Pile>(heap, text)
+    } else if has_blocks(text, "bench") {
+        blocks::run::<Bench<Pile>>(heap, text)
     } else {
         case::run(heap, room, text)
     }
