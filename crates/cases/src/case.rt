@@ -1,12 +1,17 @@
 // Cases, as the lines of a case file have them, each run by the way of its kind.
-ghost use Rattle.std.specs.Prelude.{◌≡◌, ◌≤◌, IfSome, IfOk, vec_len};
+ghost use Rattle.std.specs.Prelude.{◌≡◌, ℕ, ◌+◌, ◌≤◌, IfSome, IfOk};
+ghost use Rattle.counted.specs.Counted.{Counted};
 ghost use Rattle.cases.specs.Lines.{line_of};
+ghost use Rattle.cases.specs.Numbers.{case_count, cases_in};
 
+use crate::bytes::Bytes;
 use crate::case_error::CaseError;
 use crate::plans::Labels;
 use crate::visits::Visits;
+use converter::convert;
+use counted::{agrees, differs};
 use counting::most_steps;
-use image::reader;
+use image::{reader, writer};
 use instructions::Instruction;
 use layered::leaves::into_cells;
 use layered::pile::{Pile, into_leaf};
@@ -26,6 +31,9 @@ use trials::room::Room;
 
 /// The longest list that a case may ask for: longer than any that makes a difference.
 const LONGEST_LIST: usize = 2_000_000;
+
+/// A header of 64 bytes and 3,000 instructions of 8 bytes.
+const LONGEST_IMAGE: usize = 24064;
 
 /// `KIND ID NAME=VALUE NAME=VALUE .. -> EXPECTED`
 #[derive(Clone, Copy)]
@@ -71,27 +79,41 @@ impl<'a> Case<'a> {
     }
 }
 
-/// Runs all cases of a text, one to a line. Blank lines are no cases. At most three notes are kept.
+/// Runs all cases of a text, one to a line. Blank lines are no cases, and a line that is none otherwise
+/// counts as one that differs. At most three notes are kept.
 pub fn run(heap: Global, room: &mut Room, text: &str) -> Result<Report, AllocError>
-    ensures { IfOk result (λ report. vec_len report.notes ≤ 3) }
+    ensures { IfOk result (λ report. Counted (cases_in text.now) report) }
 {
-    let mut report = Report::new(heap);
-    for (index, line) in text.lines().enumerate() {
-        if line.is_empty() {
-            continue;
-        }
-        let number = index.saturating_add(1);
-        match Case::parse(line) {
-            Some(case) => case.run_case(heap, room, &mut report)?,
-            None => report.differs(format!(in heap; "line {number}: not a case")?)?,
-        }
+    let mut report = counted::none(heap);
+    let mut number = 0usize;
+    for line in text.lines() {
+        number = number.saturating_add(1);
+        run_line(heap, room, line, number, &mut report)?;
     }
     Ok(report)
 }
 
+fn run_line(
+    heap: Global,
+    room: &mut Room,
+    line: &str,
+    number: usize,
+    report: &mut Report,
+) -> Result<(), AllocError>
+    ensures { (n : ℕ) → Counted n report.old → IfOk result (λ done. Counted (n + case_count line.now) report.new) }
+{
+    if line.is_empty() {
+        return Ok(());
+    }
+    match Case::parse(line) {
+        Some(case) => case.run_case(heap, room, report),
+        None => differs(report, format!(in heap; "line {number}: not a case")?),
+    }
+}
+
 impl Case<'_> {
     fn run_case(self, heap: Global, room: &mut Room, report: &mut Report) -> Result<(), AllocError>
-        ensures { vec_len report.old.notes ≤ 3 → vec_len report.new.notes ≤ 3 }
+        ensures { (n : ℕ) → Counted n report.old → IfOk result (λ done. Counted (n + 1) report.new) }
     {
         let got = match self.came(heap, room) {
             Ok(answer) => answer,
@@ -99,13 +121,14 @@ impl Case<'_> {
             Err(why) => why.to_string(heap)?,
         };
         if got.as_str() == self.expected {
-            report.tally.count(true);
+            agrees(report);
             return Ok(());
         }
         let kind = self.kind;
         let id = self.id;
         let expected = self.expected;
-        report.differs(format!(in heap; "{kind} {id}: expected {expected}, got {got}")?)
+        let note = format!(in heap; "{kind} {id}: expected {expected}, got {got}")?;
+        differs(report, note)
     }
 
     // What came of a case, in the words of the case files. A match shows all kinds at one sight; a table of
@@ -115,6 +138,7 @@ impl Case<'_> {
             "read" => self.read(heap, room),
             "write" => self.write(heap, room),
             "plan" => self.plan_case(heap),
+            "convert" => self.convert_case(heap),
             "run" => self.run_program(heap),
             _ => Err(CaseError::UnknownKind),
         }
@@ -152,6 +176,28 @@ impl Case<'_> {
         list.truncate(usize::from(program.header().count).saturating_add(1));
         let labels = Labels { labels: &list };
         Ok(format!(in heap; "ok {labels}")?)
+    }
+
+    // Whether the memory hides.
+    fn hides(self) -> Result<bool, CaseError> {
+        match self.value("hides")? {
+            "0" => Ok(false),
+            "1" => Ok(true),
+            _ => Err(CaseError::Unreadable),
+        }
+    }
+
+    fn convert_case(self, heap: Global) -> Result<String, CaseError> {
+        let program = self.program_of(heap)?;
+        let list = vec![in heap; Instruction::Again; self.length("cap")?]?;
+        let straight = convert(&program, self.hides()?, list).map_err(|back| CaseError::Refused(
+            back.refusal,
+        ))?;
+        let mut image = vec![in heap; 0u8; LONGEST_IMAGE]?;
+        let length = writer::write(&straight, &mut image)?;
+        image.truncate(length);
+        let bytes = Bytes { bytes: &image };
+        Ok(format!(in heap; "ok {bytes}")?)
     }
 
     // The memory that the case names, with its cells.

@@ -6,4 +6,5 @@ pub mod Bounded
 pub mod Left
 pub mod Results
 pub mod Short
+pub mod Joined
 mod Within

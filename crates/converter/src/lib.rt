@@ -22,6 +22,7 @@ use program::refusal::{Reason, Refusal};
 
 mod check;
 mod labelled;
+pub mod parts;
 mod places;
 
 /// The most steps that a result may make.

@@ -54,7 +54,7 @@ fn end_place(out: &mut Output, masks: &Masks)
 }
 
 // Writes what the instruction at `place` becomes.
-fn convert_one(
+pub(crate) fn convert_one(
     out: &mut Output,
     source: &Labelled,
     masks: &Masks,

@@ -33,3 +33,7 @@ label_text false = codes "public"
 -- a table by its number, with its first cell
 abbrev pub table_text : ℕ → ℕ → Table → List ℕ
 table_text number first t = codes "table t" ++ (decimal number ++ (codes ": first cell " ++ (decimal first ++ (codes ", length " ++ (decimal t.length ++ (codes ", " ++ label_text t.secret))))))
+
+-- an instruction of a result, by its place there
+abbrev pub part_line_text : ℕ → Instruction → List ℕ
+part_line_text place i = codes "      " ++ (decimal place ++ (codes ": " ++ wording i))

@@ -1,6 +1,7 @@
 // Programs as text for people.
 #![tactic(auto)]
 
+pub mod beside;
 pub mod heading;
 pub mod label;
 pub mod line;

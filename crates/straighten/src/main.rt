@@ -1,29 +1,34 @@
 // Reads an image from standard input and shows the program in it, stage by stage: its listing with
-// what is secret where, what it counts at the most, and, if inputs are given, a run.
+// what is secret where, what it counts at the most, what it becomes as straight code, and, if inputs
+// are given, a run. If it is asked for, the converted image is written.
 #![tactic(auto)]
 
-use anyhow::{bail, ensure};
-use flat::Flat;
-use image::{reader, writer};
-use inputs::Inputs;
+mod running;
+mod shown;
+mod straightened;
+
+use anyhow::bail;
+use arguments::arguments::Arguments;
+use image::reader;
 use instructions::Instruction;
-use leaf::Leaf;
-use listing::listing::Listing;
-use listing::written::WrittenBack;
-use machine::visit::{Choice, Visit};
-use memory::Memory;
-use plan::plan::plan;
 use program::header::Kind;
 use program::program::Program;
 use program::refusal::Refusal;
-use report::bounds::{Bounds, bounds_of};
-use report::ran::{Registers, Totals, VisitLine};
-use run::{Outcome, run};
+use report::bounds::bounds_of;
 use std::env;
 use std::io::Read;
 
 /// A header of 64 bytes and 3,000 instructions of 8 bytes.
 const LONGEST_IMAGE: u64 = 24064;
+
+fn arguments(rt: &HostRuntime) -> anyhow::Result<Arguments> {
+    let mut arguments = Arguments::new(rt.alloc());
+    for word in env::args(rt)?.skip(1) {
+        arguments.take(word)?;
+    }
+    arguments.check()?;
+    Ok(arguments)
+}
 
 // One byte more than the longest image is enough to see that an input is too long.
 fn input(rt: &HostRuntime) -> anyhow::Result<Vec<u8>> {
@@ -33,108 +38,50 @@ fn input(rt: &HostRuntime) -> anyhow::Result<Vec<u8>> {
     Ok(image)
 }
 
-fn refuse(rt: &HostRuntime, refusal: Refusal) -> anyhow::Result<()> {
+// The program of an image, or the refusal. A refusal is an answer here, and `?` passes on only the
+// lack of memory.
+fn read(rt: &HostRuntime, image: &[u8]) -> anyhow::Result<Result<Program, Refusal>> {
+    let list = vec![in rt.alloc(); Instruction::Again; Kind::Converted.longest() as usize]?;
+    Ok(reader::read(image, list).map_err(|back| back.refusal))
+}
+
+pub(crate) fn refuse(rt: &HostRuntime, refusal: Refusal) -> anyhow::Result<()> {
     println!(rt; "{refusal}: {}", refusal.reason)?;
     bail!("refused")
 }
 
-// A converted program has no plan, and so no labels to show.
-fn show_listing(rt: &HostRuntime, program: &Program) -> anyhow::Result<()> {
-    let mut list = vec![in rt.alloc(); 0u16; program.code().len().saturating_add(1)]?;
-    let labels = match plan(program, &mut list) {
-        Ok(_) => Some(list.as_slice()),
-        Err(_) => None,
-    };
-    let listing = Listing { program, labels };
-    rt.print(listing.to_string(rt.alloc())?)?;
-    Ok(())
-}
-
-fn show_written(rt: &HostRuntime, program: &Program, image: &[u8]) -> anyhow::Result<()> {
-    let mut out = vec![in rt.alloc(); 0u8; image.len()]?;
-    let length = match writer::write(program, &mut out) {
-        Ok(length) => length,
-        Err(refusal) => return refuse(rt, refusal),
-    };
-    let same = out.as_slice() == image;
-    rt.println(WrittenBack { length, same })?;
-    ensure!(same, "not the same");
-    Ok(())
-}
-
-// The inputs that the arguments give, or none where there are no arguments.
-fn inputs(rt: &HostRuntime, program: &Program) -> anyhow::Result<Option<Inputs>> {
-    let mut words = env::args(rt)?.skip(1).peekable();
-    if words.peek().is_none() {
-        return Ok(None);
-    }
-    let mut inputs = Inputs::new(rt.alloc(), program)?;
-    for word in words.filter(|word| word.as_str() != "run") {
-        if let Err(error) = inputs.take(program, word.as_str()) {
-            println!(rt; "{error}: {word}")?;
-            return Err(error.into());
-        }
-    }
-    Ok(Some(inputs))
-}
-
-fn show_run(
+fn show(
     rt: &HostRuntime,
+    arguments: &Arguments,
+    image: &[u8],
     program: &Program,
-    bounds: Bounds,
-    inputs: Inputs,
 ) -> anyhow::Result<()> {
-    let heap = rt.alloc();
-    let Inputs { entry, cells } = inputs;
-    let mut memory = Leaf::new(Flat { cells }, vec![in heap; 0u32; bounds.flat]?);
-    let mut visits = vec![in heap; Visit {
-        place: 0,
-        choice: Choice::Onward
-    }; bounds.steps]?;
-    match run(program, &mut memory, &entry, &mut visits) {
-        Ok(outcome) => show_outcome(rt, program, outcome, &visits, &memory),
-        Err(refusal) => refuse(rt, refusal),
+    shown::show_listing(rt, program)?;
+    let bounds = bounds_of(rt.alloc(), program);
+    rt.println(bounds)?;
+    shown::show_written(rt, program, image)?;
+    straightened::show_converted(rt, program, false)?;
+    straightened::show_converted(rt, program, true)?;
+    let inputs = running::inputs(rt, program, &arguments.inputs)?;
+    if let Some(target) = &arguments.target {
+        straightened::write_to(rt, program, arguments.hides, target.as_str())?;
     }
-}
-
-fn show_outcome(
-    rt: &HostRuntime,
-    program: &Program,
-    outcome: Outcome,
-    visits: &[Visit],
-    memory: &Leaf<Flat>,
-) -> anyhow::Result<()> {
-    for visit in visits.iter().take(outcome.steps) {
-        rt.println(VisitLine { visit: *visit })?;
-    }
-    show_marks(rt, memory)?;
-    rt.println(Totals { outcome })?;
-    let count = program.header().kind.registers();
-    let words = outcome.registers;
-    rt.println(Registers { words, count })?;
-    Ok(())
-}
-
-fn show_marks(rt: &HostRuntime, memory: &Leaf<Flat>) -> anyhow::Result<()> {
-    for mark in (0..memory.marks()).filter_map(|j| memory.mark(j)) {
-        println!(rt; "mark {mark}")?;
+    if arguments.asks_for_run() {
+        return running::show_run(rt, program, bounds, inputs);
     }
     Ok(())
 }
 
 fn main(rt: HostRuntime) -> anyhow::Result<()> {
+    let arguments = arguments(&rt)?;
     let image = input(&rt)?;
-    let list = vec![in rt.alloc(); Instruction::Again; Kind::Converted.longest() as usize]?;
-    let program = match reader::read(&image, list) {
-        Ok(program) => program,
-        Err(back) => return refuse(&rt, back.refusal),
-    };
-    show_listing(&rt, &program)?;
-    let bounds = bounds_of(rt.alloc(), &program);
-    rt.println(bounds)?;
-    show_written(&rt, &program, &image)?;
-    match inputs(&rt, &program)? {
-        Some(inputs) => show_run(&rt, &program, bounds, inputs),
-        None => Ok(()),
+    let program = read(&rt, &image)?;
+    // Nothing but an image may then go to standard output, and no refusal.
+    if arguments.goes_to_standard_output() {
+        return straightened::pass_on(&rt, program, arguments.hides);
+    }
+    match program {
+        Ok(program) => show(&rt, &arguments, &image, &program),
+        Err(refusal) => refuse(&rt, refusal),
     }
 }

@@ -1,5 +1,9 @@
-use Rattle.std.proofs.Common.{◌≤◌, vec_len}
+use Rattle.std.proofs.Common.{length, take}
+use Rattle.std.specs.List.{sum_by}
+use Rattle.std.specs.Str.Lines.{lines}
+use Rattle.counted.specs.Counted.{Counted}
+use Rattle.cases.specs.Numbers.{case_count}
 use Rattle.cases.proofs.case.run.Given as goal
 
-abbrev pub invariant-loop-index : goal.invariant-loop-index
-invariant-loop-index l = vec_len l.report.notes ≤ 3
+abbrev pub invariant-loop-line : goal.invariant-loop-line
+invariant-loop-line l = Counted (sum_by case_count (take (length l.yielded) (lines l.text))) l.report
