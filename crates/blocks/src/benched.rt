@@ -1,4 +1,6 @@
 // A bench over a pile.
+ghost use Rattle.std.specs.Prelude.{codes};
+
 use crate::bench_call::call_of;
 use crate::held::Held;
 use crate::line_error::LineError;
@@ -10,7 +12,11 @@ use player::entry::{Entry, enter};
 use std::alloc::{AllocError, Global};
 
 impl Held for Bench<Pile> {
-    const HEAD: &'static str = "bench";
+    ghost head = { codes "bench " };
+
+    fn head() -> &'static str {
+        "bench "
+    }
 
     fn over(heap: Global, pile: Pile) -> Result<Bench<Pile>, AllocError> {
         Bench::new(heap, pile)

@@ -1,9 +1,11 @@
 // A block, from line to line.
-ghost use Rattle.std.specs.Prelude.{◌≤◌};
+ghost use Rattle.std.specs.Prelude.{ℕ, ◌+◌, IfOk};
+ghost use Rattle.counted.specs.Counted.{Counted};
 
 use crate::held::Held;
 use crate::line_error::LineError;
 use crate::lines::{Asked, Line};
+use counted::{agrees, differs};
 use layered::leaves::into_cells;
 use layered::pile::into_leaf;
 use makes::named;
@@ -50,6 +52,7 @@ impl fmt::Display for Missing {
 
 impl<H: Held + Drop> Block<H> {
     pub(crate) fn begin(heap: Global, head: Line) -> Result<Block<H>, AllocError> {
+        // Where no make stands behind the id, `held_of` says that it cannot be read.
         let (id, rest) = head.text.split_once(' ').unwrap_or((head.text, ""));
         let state = match held_of(heap, rest) {
             Ok(held) => State::Open { held, seen: false },
@@ -87,15 +90,15 @@ pub(crate) fn close<H: Held + Drop>(
     missing: Option<Missing>,
     report: &mut Report,
 ) -> Result<(), AllocError>
-    ensures { report.old.tally.agree ≤ report.old.tally.all → report.new.tally.agree ≤ report.new.tally.all }
+    ensures { (n : ℕ) → Counted n report.old → IfOk result (λ done. Counted (n + 1) report.new) }
 {
     let Block { id, state } = block;
-    let head = H::HEAD;
+    let head = H::head();
     match (state, missing) {
-        (State::Wrong { why }, _) => report.differs(format!(in heap; "{head} {id}: {why}")?),
-        (_, Some(missing)) => report.differs(format!(in heap; "{head} {id}: {missing}")?),
+        (State::Wrong { why }, _) => differs(report, format!(in heap; "{head}{id}: {why}")?),
+        (_, Some(missing)) => differs(report, format!(in heap; "{head}{id}: {missing}")?),
         (_, None) => {
-            report.tally.count(true);
+            agrees(report);
             Ok(())
         }
     }

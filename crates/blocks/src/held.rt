@@ -1,4 +1,6 @@
 // What a block holds: what its calls are made to.
+ghost use Rattle.std.specs.Prelude.{◌≡◌, ℕ, List};
+
 use crate::line_error::LineError;
 use layered::pile::Pile;
 use std::alloc::{AllocError, Global};
@@ -6,7 +8,10 @@ use std::alloc::{AllocError, Global};
 /// Something over a pile that answers calls.
 pub trait Held: Sized {
     /// What stands before the id in the first line of a block.
-    const HEAD: &'static str;
+    ghost head: { List ℕ };
+
+    fn head() -> &'static str
+        ensures { result.now ≡ head };
 
     /// Takes the pile that a block names.
     fn over(heap: Global, pile: Pile) -> Result<Self, AllocError>;

@@ -2,7 +2,9 @@
 // the answers that are expected, the marks seen, and the cells at the end.
 #![tactic(auto)]
 
-ghost use Rattle.std.specs.Prelude.{◌≤◌, IfOk};
+ghost use Rattle.std.specs.Prelude.{◌≡◌, ℕ, ◌+◌, IfOk, is_some, if◌then◌else◌};
+ghost use Rattle.counted.specs.Counted.{Counted};
+ghost use Rattle.blocks.specs.Numbers.{begins, closed_at, open_after, blocks_in};
 
 mod bench_call;
 mod benched;
@@ -14,6 +16,7 @@ mod memory_call;
 mod reply;
 
 use block::{Block, Missing, close};
+use counted::differs;
 use held::Held;
 use lines::Line;
 use std::alloc::{AllocError, Global};
@@ -21,23 +24,39 @@ use tally::report::Report;
 
 /// Runs all blocks of a text. A block counts as one, which agrees if each of its lines does.
 pub fn run<H: Held + Drop>(heap: Global, text: &str) -> Result<Report, AllocError>
-    ensures { IfOk result (λ report. report.tally.agree ≤ report.tally.all) }
+    ensures { IfOk result (λ report. Counted (blocks_in H.head text.now) report) }
 {
-    let mut report = Report::new(heap);
+    let mut report = counted::none(heap);
     let mut block: Option<Block<H>> = None;
-    for (index, text) in text.lines().enumerate() {
-        let number = index.saturating_add(1);
-        block = take_line(heap, block, Line { number, text }, &mut report)?;
+    let mut number = 0usize;
+    for line in text.lines() {
+        number = number.saturating_add(1);
+        let line = Line { number, text: line };
+        block = take_line(heap, block, line, &mut report)?;
     }
-    if let Some(block) = block {
-        close(heap, block, Some(Missing::End), &mut report)?;
-    }
+    close_endless(heap, block, &mut report)?;
     Ok(report)
 }
 
-// What a block's first line has behind the word for what is held.
-fn head_of<H: Held>(text: &str) -> Option<&str> {
-    text.strip_prefix(H::HEAD)?.strip_prefix(' ')
+// Counts a block that has no end, where one is open.
+fn close_endless<H: Held + Drop>(
+    heap: Global,
+    block: Option<Block<H>>,
+    report: &mut Report,
+) -> Result<(), AllocError>
+    ensures { (n : ℕ) → Counted n report.old → IfOk result (λ done. Counted (n + (if is_some block then 1 else 0)) report.new) }
+{
+    match block {
+        Some(block) => close(heap, block, Some(Missing::End), report),
+        None => Ok(()),
+    }
+}
+
+// What stands behind the word that begins a block.
+fn head_of<H: Held>(text: &str) -> Option<&str>
+    ensures { is_some result ≡ begins H.head text.now }
+{
+    text.strip_prefix(H::head())
 }
 
 fn take_line<H: Held + Drop>(
@@ -46,16 +65,13 @@ fn take_line<H: Held + Drop>(
     line: Line,
     report: &mut Report,
 ) -> Result<Option<Block<H>>, AllocError>
-    // A report's fields are public, so an invariant would ask more of who makes one.
-    ensures { report.old.tally.agree ≤ report.old.tally.all → report.new.tally.agree ≤ report.new.tally.all }
+    ensures { (n : ℕ) → Counted n report.old → IfOk result (λ next. Counted (n + closed_at H.head (is_some block) line.entry.text.now) report.new × (is_some next ≡ open_after H.head (is_some block) line.entry.text.now)) }
 {
     if line.text.is_empty() {
         return Ok(block);
     }
     if let Some(head) = head_of::<H>(line.text) {
-        if let Some(before) = block {
-            close(heap, before, Some(Missing::End), report)?;
-        }
+        close_endless(heap, block, report)?;
         return Ok(Some(Block::begin(
             heap,
             Line {
@@ -66,7 +82,7 @@ fn take_line<H: Held + Drop>(
     }
     let Some(block) = block else {
         let number = line.number;
-        report.differs(format!(in heap; "line {number}: not in a block")?)?;
+        differs(report, format!(in heap; "line {number}: not in a block")?)?;
         return Ok(None);
     };
     if line.text == "end" {

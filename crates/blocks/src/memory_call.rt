@@ -1,4 +1,6 @@
 // Calls to a memory, as lines have them.
+ghost use Rattle.std.specs.Prelude.{codes};
+
 use crate::held::Held;
 use crate::line_error::LineError;
 use layered::pile::Pile;
@@ -47,7 +49,11 @@ fn table(base: &str, len: &str) -> Result<Window, LineError> {
 
 /// A memory by itself.
 impl Held for Pile {
-    const HEAD: &'static str = "memory";
+    ghost head = { codes "memory " };
+
+    fn head() -> &'static str {
+        "memory "
+    }
 
     fn over(_heap: Global, pile: Pile) -> Result<Pile, AllocError> {
         Ok(pile)
