@@ -47,9 +47,8 @@ fn write_counts<W: fmt::Write>(tally: Tally, kind: Kind, f: &mut fmt::Formatter<
 }
 
 fn write_ending<W: fmt::Write>(ending: Ending, f: &mut fmt::Formatter<W>) -> fmt::Result {
-    let mut words = [0; 32];
-    words[..16].copy_from_slice(&ending.registers);
-    let registers = Registers { words, count: 16 };
+    let words = &ending.registers;
+    let registers = Registers { words };
     write!(f, "    ok: {registers}")?;
     match ending.fault.checked_sub(1) {
         Some(place) => write!(f, ", fault at {place}"),
