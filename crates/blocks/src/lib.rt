@@ -28,9 +28,8 @@ pub fn run<H: Held + Drop>(heap: Global, text: &str) -> Result<Report, AllocErro
 {
     let mut report = counted::none(heap);
     let mut block: Option<Block<H>> = None;
-    let mut number = 0usize;
-    for line in text.lines() {
-        number = number.saturating_add(1);
+    for (index, line) in text.lines().enumerate() {
+        let number = index.saturating_add(1);
         let line = Line { number, text: line };
         block = take_line(heap, block, line, &mut report)?;
     }

@@ -86,9 +86,8 @@ pub fn run(heap: Global, room: &mut Room, text: &str) -> Result<Report, AllocErr
     ensures { IfOk result (λ report. Counted (cases_in text.now) report) }
 {
     let mut report = counted::none(heap);
-    let mut number = 0usize;
-    for line in text.lines() {
-        number = number.saturating_add(1);
+    for (index, line) in text.lines().enumerate() {
+        let number = index.saturating_add(1);
         run_line(heap, room, line, number, &mut report)?;
     }
     Ok(report)

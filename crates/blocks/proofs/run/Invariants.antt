@@ -4,5 +4,5 @@ use Rattle.counted.specs.Counted.{Counted}
 use Rattle.blocks.specs.Numbers.{blocks_among}
 use Rattle.blocks.proofs.run.Given as goal
 
-abbrev pub invariant-loop-line : goal.invariant-loop-line
-invariant-loop-line g l = (n : ℕ) × Counted n l.report × (n + blocks_among g.H.Held.head (is_some l.block) (drop (length l.yielded) (lines l.text)) ≡ blocks_among g.H.Held.head false (lines l.text))
+abbrev pub invariant-loop-index : goal.invariant-loop-index
+invariant-loop-index g l = (n : ℕ) × Counted n l.report × (n + blocks_among g.H.Held.head (is_some l.block) (drop (length l.yielded) (lines l.text)) ≡ blocks_among g.H.Held.head false (lines l.text))

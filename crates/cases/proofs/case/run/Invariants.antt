@@ -5,5 +5,5 @@ use Rattle.counted.specs.Counted.{Counted}
 use Rattle.cases.specs.Numbers.{case_count}
 use Rattle.cases.proofs.case.run.Given as goal
 
-abbrev pub invariant-loop-line : goal.invariant-loop-line
-invariant-loop-line l = Counted (sum_by case_count (take (length l.yielded) (lines l.text))) l.report
+abbrev pub invariant-loop-index : goal.invariant-loop-index
+invariant-loop-index l = Counted (sum_by case_count (take (length l.yielded) (lines l.text))) l.report
