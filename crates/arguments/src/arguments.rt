@@ -1,8 +1,8 @@
 // The arguments, word by word.
-ghost use Rattle.std.specs.Prelude.{◌≡◌, Bool, true, false, not, ◌&&◌, ◌||◌, None, Some, Err, [], ◌∷◌, ◌++◌, is_some, is_ok, nat_lt, if◌then◌else◌, string_bytes, codes};
+ghost use Rattle.std.specs.Prelude.{◌≡◌, Bool, true, false, not, ◌&&◌, ◌||◌, None, Some, Err, [], ◌∷◌, ◌++◌, is_some, is_ok, nat_lt, if◌then◌else◌, string_bytes, codes, alloc_error, MatchResult};
 ghost use Rattle.std.specs.Vec.{vec_len};
 ghost use Rattle.arguments.specs.Asked.{says, is_input, is_dash, flaw, flaw_of};
-ghost use Rattle.arguments.specs.declared.argument_error.ArgumentError.TheVariants.{SecondTarget};
+ghost use Rattle.arguments.specs.declared.argument_error.ArgumentError.TheVariants.{SecondTarget, OutOfMemory};
 
 use crate::argument_error::ArgumentError;
 use std::alloc::Global;
@@ -47,7 +47,8 @@ impl Arguments {
         ensures inputs { self.new.inputs.items ≡ (if is_ok result && is_input self.old.awaits (string_bytes word) then self.old.inputs.items ++ word ∷ [] else self.old.inputs.items) }
         ensures awaits { self.new.awaits ≡ (says self.old.awaits (string_bytes word) (codes "convert") && not (is_some self.old.target)) }
         ensures second { says self.old.awaits (string_bytes word) (codes "convert") ≡ true → is_some self.old.target ≡ true → result ≡ Err SecondTarget }
-        ensures accepted { is_input self.old.awaits (string_bytes word) ≡ false → (says self.old.awaits (string_bytes word) (codes "convert") && is_some self.old.target) ≡ false → is_ok result ≡ true }
+        ensures full { is_input self.old.awaits (string_bytes word) ≡ true → MatchResult result (λ taken. Unit {0}) (λ e. e ≡ OutOfMemory alloc_error) }
+    ensures accepted { is_input self.old.awaits (string_bytes word) ≡ false → (says self.old.awaits (string_bytes word) (codes "convert") && is_some self.old.target) ≡ false → is_ok result ≡ true }
     {
         if self.awaits {
             self.awaits = false;
