@@ -48,7 +48,7 @@ impl Arguments {
         ensures awaits { self.new.awaits ≡ (says self.old.awaits (string_bytes word) (codes "convert") && not (is_some self.old.target)) }
         ensures second { says self.old.awaits (string_bytes word) (codes "convert") ≡ true → is_some self.old.target ≡ true → result ≡ Err SecondTarget }
         ensures full { is_input self.old.awaits (string_bytes word) ≡ true → MatchResult result (λ taken. Unit {0}) (λ e. e ≡ OutOfMemory alloc_error) }
-    ensures accepted { is_input self.old.awaits (string_bytes word) ≡ false → (says self.old.awaits (string_bytes word) (codes "convert") && is_some self.old.target) ≡ false → is_ok result ≡ true }
+        ensures accepted { is_input self.old.awaits (string_bytes word) ≡ false → (says self.old.awaits (string_bytes word) (codes "convert") && is_some self.old.target) ≡ false → is_ok result ≡ true }
     {
         if self.awaits {
             self.awaits = false;
