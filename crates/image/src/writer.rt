@@ -1,6 +1,6 @@
 // Writes an image.
 ghost use Rattle.std.specs.Prelude.{◌≡◌, ◌*◌, length};
-ghost use Rattle.image.specs.Images.{code_bytes};
+ghost use Rattle.image.specs.Images.{instruction_bytes, code_bytes};
 ghost use Rattle.image.specs.Writing.{write_answer, written, Rereads};
 
 use fields::fields::Fields;
@@ -9,15 +9,22 @@ use instructions::Instruction;
 use program::program::Program;
 use program::refusal::{Reason, Refusal};
 
-// Each instruction goes into its own eight bytes. They are found by its number, since of what a
-// loop over the chunks of a slice wrote no proof can know.
+// Writes an instruction over eight bytes.
+fn write_instruction(instruction: Instruction, out: &mut [u8])
+    requires { length out.old ≡ 8 }
+    ensures { out.new ≡ instruction_bytes instruction }
+{
+    out.copy_from_slice(&Fields::from(instruction).to_bytes());
+}
+
+// Each instruction is written by its own writer, which is lent its part of the bytes. It is found by its number,
+// since of what a loop over the chunks of a slice wrote no proof can know.
 fn write_code(code: &[Instruction], out: &mut [u8])
     requires { length out.old ≡ 8 * length code.now }
     ensures { out.new ≡ code_bytes code.now }
 {
     for (i, instruction) in code.iter().enumerate() {
-        let bytes = Fields::from(*instruction).to_bytes();
-        out[8 * i..8 * i + 8].copy_from_slice(&bytes);
+        write_instruction(*instruction, &mut out[8 * i..8 * i + 8]);
     }
 }
 
