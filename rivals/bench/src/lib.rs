@@ -2,5 +2,8 @@
 //! memories and the bench.
 
 pub mod image;
+pub mod make;
+pub mod memory;
+pub mod most;
 pub mod program;
 pub mod refusal;
