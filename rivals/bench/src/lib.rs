@@ -1,7 +1,9 @@
 //! A second writing of the bench, from its pages alone: images, labels, conversion, the machine,
 //! memories and the bench.
 
+pub mod conversion;
 pub mod image;
+pub mod labels;
 pub mod make;
 pub mod memory;
 pub mod most;

@@ -1,0 +1,172 @@
+//! Which registers may depend on a secret at each place: the smallest sets that keep the rules.
+//!
+//! All moves but that of an again go forward. So one walk sets all, except that it goes back to the
+//! place after a repeat whenever its again raises the set there. A set only ever grows, and only by
+//! what a rule asks for, so what is reached is the smallest.
+
+use crate::program::{Instruction, Kind, Op, Program, Table, MOST_OPEN, MOST_SOURCE};
+use crate::refusal::{Reason, Refusal};
+
+/// A set of registers, bit i for register i.
+pub type Set = u16;
+
+#[derive(Clone, Copy, Default)]
+struct Open {
+    place: usize,
+    secret: bool,
+    /// What leaves the opening or, once it has come, the else.
+    carried: Set,
+}
+
+/// The smallest sets of a source at places 0 to n; later entries are of no meaning.
+pub struct Labels {
+    sets: [Set; MOST_SOURCE + 1],
+    masked: [bool; MOST_SOURCE],
+}
+
+impl Labels {
+    pub fn at(&self, place: usize) -> Set {
+        self.sets[place]
+    }
+
+    pub fn secret(&self, place: usize, register: u8) -> bool {
+        has(self.sets[place], register)
+    }
+
+    /// Whether the place lies within a secret if.
+    pub fn masked(&self, place: usize) -> bool {
+        self.masked[place]
+    }
+}
+
+fn has(set: Set, register: u8) -> bool {
+    set >> (register & 15) & 1 != 0
+}
+
+/// Only of a source: others have more registers and places than the sets hold.
+pub fn of_source(program: &Program) -> Result<Labels, Refusal> {
+    if program.kind() != Kind::Source {
+        return Err(Reason::NotASource.at(0));
+    }
+    let mut walk = Walk {
+        labels: Labels {
+            sets: [0; MOST_SOURCE + 1],
+            masked: [false; MOST_SOURCE],
+        },
+        open: [Open::default(); MOST_OPEN],
+        depth: 0,
+        secret_ifs: 0,
+    };
+    walk.labels.sets[0] = program.header.secret;
+    let (code, tables) = (program.code(), program.tables());
+    let mut place = 0;
+    while let Some(step) = code.get(place) {
+        place = walk.pass(place, step, tables);
+    }
+    Ok(walk.labels)
+}
+
+/// Writes S(0) to S(n) into the list; later entries stay.
+pub fn plan(program: &Program, list: &mut [Set]) -> Result<(), Refusal> {
+    let labels = of_source(program)?;
+    let needed = program.code().len() + 1;
+    let room = list
+        .get_mut(..needed)
+        .ok_or(Reason::NoRoomForResult.at(needed))?;
+    room.copy_from_slice(&labels.sets[..needed]);
+    Ok(())
+}
+
+struct Walk {
+    labels: Labels,
+    open: [Open; MOST_OPEN],
+    depth: usize,
+    secret_ifs: usize,
+}
+
+impl Walk {
+    /// Brings the place's moves about, and answers the place to go on with.
+    fn pass(&mut self, place: usize, step: &Instruction, tables: &[Table]) -> usize {
+        let here = self.labels.sets[place];
+        match step.op {
+            Op::If => self.push(Open {
+                place,
+                secret: has(here, step.a),
+                carried: here,
+            }),
+            Op::Repeat => self.push(Open {
+                place,
+                secret: false,
+                carried: here,
+            }),
+            Op::Else => return self.pass_else(place, here),
+            Op::End => {
+                let top = self.pop();
+                self.labels.sets[place] |= top.carried;
+                self.labels.sets[place + 1] |= here | top.carried;
+                return place + 1;
+            }
+            Op::Again => return self.pass_again(place, here),
+            _ => {
+                let masked = self.secret_ifs > 0;
+                self.labels.masked[place] = masked;
+                self.labels.sets[place + 1] |= leaves(here, step, tables, masked);
+                return place + 1;
+            }
+        }
+        self.labels.sets[place + 1] |= here;
+        place + 1
+    }
+
+    fn pass_else(&mut self, place: usize, here: Set) -> usize {
+        let top = &mut self.open[self.depth - 1];
+        let from_then = if top.secret { here } else { 0 };
+        self.labels.sets[place + 1] |= top.carried | from_then;
+        top.carried = here;
+        place + 1
+    }
+
+    fn pass_again(&mut self, place: usize, here: Set) -> usize {
+        let top = self.open[self.depth - 1];
+        let body = top.place + 1;
+        if here & !self.labels.sets[body] != 0 {
+            self.labels.sets[body] |= here;
+            return body;
+        }
+        self.pop();
+        self.labels.sets[place + 1] |= here | top.carried;
+        place + 1
+    }
+
+    fn push(&mut self, open: Open) {
+        self.open[self.depth] = open;
+        self.depth += 1;
+        self.secret_ifs += usize::from(open.secret);
+    }
+
+    fn pop(&mut self) -> Open {
+        self.depth -= 1;
+        let top = self.open[self.depth];
+        self.secret_ifs -= usize::from(top.secret);
+        top
+    }
+}
+
+/// What leaves the place of an op that is no bracket.
+fn leaves(here: Set, step: &Instruction, tables: &[Table], masked: bool) -> Set {
+    let (a, b, d) = (has(here, step.a), has(here, step.b), has(here, step.d));
+    let reads_secret = match step.op {
+        Op::Store => return here,
+        Op::Const => false,
+        Op::Move | Op::Shl | Op::Shr | Op::Rotl => a,
+        Op::Pick => a | b | d,
+        Op::Load => a | tables[usize::from(step.b)].secret,
+        _ => a | b,
+    };
+    let target = 1 << (step.d & 15);
+    if masked | reads_secret {
+        here | target
+    } else {
+        here & !target
+    }
+}
