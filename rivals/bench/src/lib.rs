@@ -1,9 +1,11 @@
 //! A second writing of the bench, from its pages alone: images, labels, conversion, the machine,
 //! memories and the bench.
 
+pub mod bench;
 pub mod conversion;
 pub mod image;
 pub mod labels;
+pub mod machine;
 pub mod make;
 pub mod memory;
 pub mod most;
