@@ -2,6 +2,7 @@
 //! memories and the bench.
 
 pub mod bench;
+pub mod cases;
 pub mod conversion;
 pub mod image;
 pub mod labels;
@@ -11,3 +12,4 @@ pub mod memory;
 pub mod most;
 pub mod program;
 pub mod refusal;
+pub mod text;
