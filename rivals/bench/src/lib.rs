@@ -4,6 +4,7 @@
 pub mod bench;
 pub mod cases;
 pub mod conversion;
+pub mod generator;
 pub mod image;
 pub mod labels;
 pub mod machine;
