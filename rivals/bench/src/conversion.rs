@@ -1,7 +1,7 @@
 //! Converting a source into straight code: secret ifs are gone, both arms are done in turn, and a
 //! mask keeps what the arm that was not taken would have changed.
 
-use crate::labels::{self, Labels};
+use crate::labels::{self, has, Set};
 use crate::most::{most, Shape, MOST};
 use crate::program::{HandedBack, Header, Instruction, Kind, Op, Program, MOST_OPEN, MOST_SOURCE};
 use crate::refusal::{Reason, Refusal};
@@ -105,79 +105,100 @@ pub fn convert_fitting(source: &Program, hides: bool) -> Result<Program, Refusal
 fn checked(source: &Program, hides: bool, room: usize) -> Result<(Parts, usize), Refusal> {
     let labels = labels::of_source(source)?;
     let code = source.code();
-    check_secrets(source, hides, &labels)?;
-    let parts = parts(code, &labels);
+    let mut parts = [Part {
+        role: Role::Op,
+        secrets: 0,
+    }; MOST_SOURCE];
+    let mut around = Around::default();
+    let mut count = 0;
+    for (place, (step, part)) in code.iter().zip(&mut parts).enumerate() {
+        let set = labels.at(place);
+        if step.op >= Op::Load {
+            around
+                .check(source, hides, step, set)
+                .map_err(|reason| reason.at(place))?;
+        }
+        *part = around.pass(step, has(set, step.a));
+        count += part.size(step.op);
+    }
     let steps = most(
         1,
         code.iter().zip(&parts).map(|(step, part)| part.shape(step)),
     );
     Reason::TooManySteps.unless(steps <= MOST)?;
-    let count = code
-        .iter()
-        .zip(&parts)
-        .map(|(step, part)| part.size(step.op))
-        .sum();
     if room < count {
         return Err(Reason::NoRoomForResult.at(count));
     }
     Ok((parts, count))
 }
 
-fn check_secrets(source: &Program, hides: bool, labels: &Labels) -> Result<(), Refusal> {
-    let tables = source.tables();
-    for (place, step) in source.code().iter().enumerate() {
-        let index = labels.secret(place, step.a);
-        let access = matches!(step.op, Op::Load | Op::Store);
-        if step.op == Op::Repeat && index {
-            return Err(Reason::SecretRepeat.at(place));
-        }
-        if access && index && !hides {
-            return Err(Reason::SecretIndex.at(place));
-        }
-        if step.op == Op::Store && !tables[usize::from(step.b)].secret {
-            let value = labels.secret(place, step.d);
-            if index || value || labels.masked(place) {
-                return Err(Reason::PublicStore.at(place));
-            }
-        }
-    }
-    Ok(())
+/// The openings around a place, whether each is a secret if, and how many are.
+#[derive(Default)]
+struct Around {
+    open: [bool; MOST_OPEN],
+    depth: usize,
+    secrets: u8,
 }
 
-fn parts(code: &[Instruction], labels: &Labels) -> Parts {
-    let mut parts = [Part {
-        role: Role::Op,
-        secrets: 0,
-    }; MOST_SOURCE];
-    let mut open = [false; MOST_OPEN];
-    let mut depth = 0;
-    let mut secrets = 0;
-    for (place, (step, part)) in code.iter().zip(&mut parts).enumerate() {
-        part.secrets = secrets;
+impl Around {
+    /// Refuses what secrets must not decide.
+    fn check(
+        &self,
+        source: &Program,
+        hides: bool,
+        step: &Instruction,
+        set: Set,
+    ) -> Result<(), Reason> {
+        let public = || !source.tables()[usize::from(step.b)].secret;
+        let secret = has(set, step.a);
         match step.op {
-            Op::If | Op::Repeat => {
-                let secret = step.op == Op::If && labels.secret(place, step.a);
-                open[depth] = secret;
-                depth += 1;
-                part.role = if secret { Role::SecretIf } else { Role::Kept };
-                secrets += u8::from(secret);
+            Op::Repeat if secret => Err(Reason::SecretRepeat),
+            Op::Load | Op::Store if secret && !hides => Err(Reason::SecretIndex),
+            Op::Store if (secret || has(set, step.d) || self.secrets > 0) && public() => {
+                Err(Reason::PublicStore)
             }
-            Op::Else => {
-                let secret = open[depth - 1];
-                part.role = if secret { Role::SecretElse } else { Role::Kept };
-                part.secrets -= u8::from(secret);
-            }
-            Op::End | Op::Again => {
-                depth -= 1;
-                let secret = open[depth];
-                part.role = if secret { Role::SecretEnd } else { Role::Kept };
-                secrets -= u8::from(secret);
-                part.secrets = secrets;
-            }
-            _ => {}
+            _ => Ok(()),
         }
     }
-    parts
+
+    /// What the next place is, where `secret` tells of its register a.
+    fn pass(&mut self, step: &Instruction, secret: bool) -> Part {
+        let secrets = self.secrets;
+        let role = |secret, role| if secret { role } else { Role::Kept };
+        match step.op {
+            Op::If | Op::Repeat => {
+                let secret = secret && step.op == Op::If;
+                self.open[self.depth] = secret;
+                self.depth += 1;
+                self.secrets += u8::from(secret);
+                Part {
+                    role: role(secret, Role::SecretIf),
+                    secrets,
+                }
+            }
+            Op::Else => {
+                let secret = self.open[self.depth - 1];
+                let secrets = secrets - u8::from(secret);
+                Part {
+                    role: role(secret, Role::SecretElse),
+                    secrets,
+                }
+            }
+            Op::End | Op::Again => {
+                self.depth -= 1;
+                let secret = self.open[self.depth];
+                self.secrets -= u8::from(secret);
+                Part {
+                    role: role(secret, Role::SecretEnd),
+                    secrets: self.secrets,
+                }
+            }
+            _ => Part {
+                role: Role::Op,
+                secrets,
+            },
+        }
+    }
 }
 
 struct Writer<'a> {

@@ -21,26 +21,24 @@ struct Open {
 /// The smallest sets of a source at places 0 to n; later entries are of no meaning.
 pub struct Labels {
     sets: [Set; MOST_SOURCE + 1],
-    masked: [bool; MOST_SOURCE],
 }
 
 impl Labels {
     pub fn at(&self, place: usize) -> Set {
         self.sets[place]
     }
-
-    pub fn secret(&self, place: usize, register: u8) -> bool {
-        has(self.sets[place], register)
-    }
-
-    /// Whether the place lies within a secret if.
-    pub fn masked(&self, place: usize) -> bool {
-        self.masked[place]
-    }
 }
 
-fn has(set: Set, register: u8) -> bool {
+pub fn has(set: Set, register: u8) -> bool {
     set >> (register & 15) & 1 != 0
+}
+
+fn secret_tables(tables: &[Table]) -> Set {
+    let bits = tables
+        .iter()
+        .enumerate()
+        .map(|(number, table)| u16::from(table.secret) << number);
+    bits.sum()
 }
 
 /// Only of a source: others have more registers and places than the sets hold.
@@ -51,14 +49,14 @@ pub fn of_source(program: &Program) -> Result<Labels, Refusal> {
     let mut walk = Walk {
         labels: Labels {
             sets: [0; MOST_SOURCE + 1],
-            masked: [false; MOST_SOURCE],
         },
         open: [Open::default(); MOST_OPEN],
         depth: 0,
         secret_ifs: 0,
     };
     walk.labels.sets[0] = program.header.secret;
-    let (code, tables) = (program.code(), program.tables());
+    let code = program.code();
+    let tables = secret_tables(program.tables());
     let mut place = 0;
     while let Some(step) = code.get(place) {
         place = walk.pass(place, step, tables);
@@ -86,7 +84,7 @@ struct Walk {
 
 impl Walk {
     /// Brings the place's moves about, and answers the place to go on with.
-    fn pass(&mut self, place: usize, step: &Instruction, tables: &[Table]) -> usize {
+    fn pass(&mut self, place: usize, step: &Instruction, secret_tables: Set) -> usize {
         let here = self.labels.sets[place];
         match step.op {
             Op::If => self.push(Open {
@@ -109,8 +107,7 @@ impl Walk {
             Op::Again => return self.pass_again(place, here),
             _ => {
                 let masked = self.secret_ifs > 0;
-                self.labels.masked[place] = masked;
-                self.labels.sets[place + 1] |= leaves(here, step, tables, masked);
+                self.labels.sets[place + 1] |= leaves(here, step, secret_tables, masked);
                 return place + 1;
             }
         }
@@ -152,21 +149,36 @@ impl Walk {
     }
 }
 
-/// What leaves the place of an op that is no bracket.
-fn leaves(here: Set, step: &Instruction, tables: &[Table], masked: bool) -> Set {
-    let (a, b, d) = (has(here, step.a), has(here, step.b), has(here, step.d));
-    let reads_secret = match step.op {
-        Op::Store => return here,
-        Op::Const => false,
-        Op::Move | Op::Shl | Op::Shr | Op::Rotl => a,
-        Op::Pick => a | b | d,
-        Op::Load => a | tables[usize::from(step.b)].secret,
-        _ => a | b,
+const A: u8 = 1;
+const B: u8 = 2;
+const D: u8 = 4;
+const TABLE: u8 = 8;
+
+/// Which of its fields an op that is no bracket reads, a store apart: at the op's number.
+const READS: [u8; 15] = {
+    let mut reads = [A | B; 15];
+    reads[Op::Const as usize] = 0;
+    reads[Op::Move as usize] = A;
+    reads[Op::Shl as usize] = A;
+    reads[Op::Shr as usize] = A;
+    reads[Op::Rotl as usize] = A;
+    reads[Op::Pick as usize] = A | B | D;
+    reads[Op::Load as usize] = A | TABLE;
+    reads
+};
+
+/// What leaves the place of an op that is no bracket. `secret_tables` has bit t set for a secret
+/// table t.
+fn leaves(here: Set, step: &Instruction, secret_tables: Set, masked: bool) -> Set {
+    let Some(&reads) = READS.get(step.op as usize) else {
+        return here;
     };
+    let bit = |set: Set, number: u8, field: u8| u8::from(has(set, number)) * field;
+    let secret = bit(here, step.a, A)
+        | bit(here, step.b, B)
+        | bit(here, step.d, D)
+        | bit(secret_tables, step.b, TABLE);
     let target = 1 << (step.d & 15);
-    if masked | reads_secret {
-        here | target
-    } else {
-        here & !target
-    }
+    let raised = masked | (reads & secret != 0);
+    here & !target | if raised { target } else { 0 }
 }

@@ -24,25 +24,42 @@ pub struct Visit {
     pub choice: Choice,
 }
 
+/// Operands: the target, and what is read. The last is a register or a distance.
+#[derive(Clone, Copy, Debug, PartialEq, Eq)]
+struct Of {
+    d: u8,
+    a: u8,
+    b: u8,
+}
+
+/// A register and the table that it goes through.
+#[derive(Clone, Copy, Debug, PartialEq, Eq)]
+struct Cell {
+    d: u8,
+    a: u8,
+    first: u16,
+    len: u16,
+}
+
 /// An instruction with all that it needs, in eight bytes.
 #[derive(Clone, Copy, Debug, PartialEq, Eq)]
 enum Step {
     Const { d: u8, k: u32 },
-    Move { d: u8, a: u8 },
-    Add { d: u8, a: u8, b: u8 },
-    Sub { d: u8, a: u8, b: u8 },
-    Mul { d: u8, a: u8, b: u8 },
-    And { d: u8, a: u8, b: u8 },
-    Or { d: u8, a: u8, b: u8 },
-    Xor { d: u8, a: u8, b: u8 },
-    Shl { d: u8, a: u8, k: u8 },
-    Shr { d: u8, a: u8, k: u8 },
-    Rotl { d: u8, a: u8, k: u8 },
-    Below { d: u8, a: u8, b: u8 },
-    Same { d: u8, a: u8, b: u8 },
-    Pick { d: u8, a: u8, b: u8 },
-    Load { d: u8, a: u8, first: u16, len: u16 },
-    Store { d: u8, a: u8, first: u16, len: u16 },
+    Move(Of),
+    Add(Of),
+    Sub(Of),
+    Mul(Of),
+    And(Of),
+    Or(Of),
+    Xor(Of),
+    Shl(Of),
+    Shr(Of),
+    Rotl(Of),
+    Below(Of),
+    Same(Of),
+    Pick(Of),
+    Load(Cell),
+    Store(Cell),
     If { a: u8, past: u16 },
     Else { end: u16 },
     End,
@@ -98,34 +115,29 @@ fn jumps(code: &[Instruction]) -> Vec<u16> {
 
 fn ready(step: &Instruction, to: u16, tables: &[Table]) -> Step {
     let Instruction { op, d, a, b, k } = *step;
-    let table = || tables[usize::from(b)];
+    let of = Of { d, a, b };
+    let by = Of { b: k as u8, ..of };
+    let cell = || {
+        let Table { first, len, .. } = tables[usize::from(b)];
+        Cell { d, a, first, len }
+    };
     match op {
         Op::Const => Step::Const { d, k },
-        Op::Move => Step::Move { d, a },
-        Op::Add => Step::Add { d, a, b },
-        Op::Sub => Step::Sub { d, a, b },
-        Op::Mul => Step::Mul { d, a, b },
-        Op::And => Step::And { d, a, b },
-        Op::Or => Step::Or { d, a, b },
-        Op::Xor => Step::Xor { d, a, b },
-        Op::Shl => Step::Shl { d, a, k: k as u8 },
-        Op::Shr => Step::Shr { d, a, k: k as u8 },
-        Op::Rotl => Step::Rotl { d, a, k: k as u8 },
-        Op::Below => Step::Below { d, a, b },
-        Op::Same => Step::Same { d, a, b },
-        Op::Pick => Step::Pick { d, a, b },
-        Op::Load => Step::Load {
-            d,
-            a,
-            first: table().first,
-            len: table().len,
-        },
-        Op::Store => Step::Store {
-            d,
-            a,
-            first: table().first,
-            len: table().len,
-        },
+        Op::Move => Step::Move(of),
+        Op::Add => Step::Add(of),
+        Op::Sub => Step::Sub(of),
+        Op::Mul => Step::Mul(of),
+        Op::And => Step::And(of),
+        Op::Or => Step::Or(of),
+        Op::Xor => Step::Xor(of),
+        Op::Shl => Step::Shl(by),
+        Op::Shr => Step::Shr(by),
+        Op::Rotl => Step::Rotl(by),
+        Op::Below => Step::Below(of),
+        Op::Same => Step::Same(of),
+        Op::Pick => Step::Pick(of),
+        Op::Load => Step::Load(cell()),
+        Op::Store => Step::Store(cell()),
         Op::If => Step::If { a, past: to },
         Op::Else => Step::Else { end: to },
         Op::End => Step::End,
@@ -151,6 +163,22 @@ impl Registers {
     fn set(&mut self, register: u8, word: u32) {
         self.0[usize::from(register) & (REGISTERS - 1)] = word;
     }
+
+    #[inline(always)]
+    fn one(&mut self, of: Of, result: impl Fn(u32) -> u32) {
+        self.set(of.d, result(self.get(of.a)));
+    }
+
+    #[inline(always)]
+    fn two(&mut self, of: Of, result: impl Fn(u32, u32) -> u32) {
+        self.set(of.d, result(self.get(of.a), self.get(of.b)));
+    }
+
+    #[inline(always)]
+    fn pick(&mut self, of: Of) {
+        let from = if self.get(of.a) != 0 { of.b } else { of.d };
+        self.set(of.d, self.get(from));
+    }
 }
 
 /// The rounds left of the repeats around, innermost last, with the round that is being run.
@@ -161,10 +189,12 @@ struct Rounds {
 }
 
 impl Rounds {
+    /// Whether there is a round to be run; if not, the repeat is not opened.
     #[inline(always)]
-    fn open(&mut self, rounds: u32) {
+    fn open(&mut self, rounds: u32) -> bool {
         self.left[self.depth & (MOST_OPEN - 1)] = rounds;
-        self.depth += 1;
+        self.depth += usize::from(rounds > 0);
+        rounds > 0
     }
 
     /// Whether another round is to be run; if not, the repeat is no longer open.
@@ -212,110 +242,81 @@ impl Code {
         let before = memory.marks();
         let mut regs = Registers([0; REGISTERS]);
         regs.0[..ENTRY].copy_from_slice(entry);
-        let (steps, fault) = self.walk(memory, &mut regs, visits);
-        let marks = memory.marks() - before;
+        let steps = self.walk(memory, &mut regs, visits);
+        let fault = |visit: &&Visit| visit.choice == Choice::Fault;
+        let last = visits[..steps].last().filter(fault);
         Ending {
             registers: regs.0,
             steps,
-            marks,
-            fault: fault.then_some(usize::from(
-                visits[..steps].last().map_or(0, |visit| visit.place),
-            )),
+            marks: memory.marks() - before,
+            fault: last.map(|visit| usize::from(visit.place)),
         }
     }
 
-    /// Steps until the end or a fault; answers how many steps it took and whether it faulted.
+    /// Steps until the end or a fault, and answers how many steps it took. A fault goes to the end.
     fn walk<M: Memory + ?Sized>(
         &self,
         memory: &mut M,
         regs: &mut Registers,
         visits: &mut [Visit],
-    ) -> (usize, bool) {
+    ) -> usize {
         let mut rounds = Rounds::default();
         let mut place = 0;
         let mut steps = 0;
-        while let Some(step) = self.code.get(place) {
-            let (choice, next) = step.perform(place, memory, regs, &mut rounds);
-            visits[steps] = Visit {
-                place: place as u16,
-                choice,
+        for visit in visits {
+            let Some(step) = self.code.get(place) else {
+                break;
             };
+            let (choice, next) = step.perform(place + 1, memory, regs, &mut rounds);
+            visit.place = place as u16;
+            visit.choice = choice;
             steps += 1;
-            if choice == Choice::Fault {
-                return (steps, true);
-            }
             place = next;
         }
-        (steps, false)
+        steps
     }
 }
+
+/// Behind every program, so that a run which goes there is over.
+const OVER: usize = usize::MAX;
 
 impl Step {
     /// Does one step, and answers the choice and the place to go on with.
     #[inline(always)]
     fn perform<M: Memory + ?Sized>(
         &self,
-        place: usize,
+        next: usize,
         memory: &mut M,
         regs: &mut Registers,
         rounds: &mut Rounds,
     ) -> (Choice, usize) {
-        let next = place + 1;
         match *self {
-            Step::Load { d, a, first, len } => {
-                let Some(off) = inside(regs.get(a), len) else {
-                    return (Choice::Fault, place);
-                };
-                regs.set(d, memory.get(window(first, len), off));
-            }
-            Step::Store { d, a, first, len } => {
-                let Some(off) = inside(regs.get(a), len) else {
-                    return (Choice::Fault, place);
-                };
-                memory.set(window(first, len), off, regs.get(d));
-            }
+            Step::Const { d, k } => regs.set(d, k),
+            Step::Move(of) => regs.one(of, |a| a),
+            Step::Add(of) => regs.two(of, u32::wrapping_add),
+            Step::Sub(of) => regs.two(of, u32::wrapping_sub),
+            Step::Mul(of) => regs.two(of, u32::wrapping_mul),
+            Step::And(of) => regs.two(of, |a, b| a & b),
+            Step::Or(of) => regs.two(of, |a, b| a | b),
+            Step::Xor(of) => regs.two(of, |a, b| a ^ b),
+            Step::Shl(of) => regs.one(of, |a| a << (of.b & 31)),
+            Step::Shr(of) => regs.one(of, |a| a >> (of.b & 31)),
+            Step::Rotl(of) => regs.one(of, |a| a.rotate_left(u32::from(of.b))),
+            Step::Below(of) => regs.two(of, |a, b| u32::from(a < b)),
+            Step::Same(of) => regs.two(of, |a, b| u32::from(a == b)),
+            Step::Pick(of) => regs.pick(of),
+            Step::Load(cell) => return load(cell, next, memory, regs),
+            Step::Store(cell) => return store(cell, next, memory, regs),
             Step::If { a, past } => return way(regs.get(a) != 0, next, past),
             Step::Else { end } => return (Choice::Onward, usize::from(end)),
+            Step::End => {}
             Step::Repeat { a, most, past } => {
                 let count = regs.get(a).min(u32::from(most));
-                if count > 0 {
-                    rounds.open(count);
-                }
-                return way(count > 0, next, past);
+                return way(rounds.open(count), next, past);
             }
-            Step::Again { body } => {
-                return if rounds.next() {
-                    (Choice::Inward, usize::from(body))
-                } else {
-                    (Choice::Past, next)
-                };
-            }
-            _ => self.compute(regs),
+            Step::Again { body } => return again(rounds.next(), next, body),
         }
         (Choice::Onward, next)
-    }
-
-    /// Does an op on registers.
-    #[inline(always)]
-    fn compute(&self, regs: &mut Registers) {
-        let (d, word) = match *self {
-            Step::Const { d, k } => (d, k),
-            Step::Move { d, a } => (d, regs.get(a)),
-            Step::Add { d, a, b } => (d, regs.get(a).wrapping_add(regs.get(b))),
-            Step::Sub { d, a, b } => (d, regs.get(a).wrapping_sub(regs.get(b))),
-            Step::Mul { d, a, b } => (d, regs.get(a).wrapping_mul(regs.get(b))),
-            Step::And { d, a, b } => (d, regs.get(a) & regs.get(b)),
-            Step::Or { d, a, b } => (d, regs.get(a) | regs.get(b)),
-            Step::Xor { d, a, b } => (d, regs.get(a) ^ regs.get(b)),
-            Step::Shl { d, a, k } => (d, regs.get(a) << (k & 31)),
-            Step::Shr { d, a, k } => (d, regs.get(a) >> (k & 31)),
-            Step::Rotl { d, a, k } => (d, regs.get(a).rotate_left(u32::from(k))),
-            Step::Below { d, a, b } => (d, u32::from(regs.get(a) < regs.get(b))),
-            Step::Same { d, a, b } => (d, u32::from(regs.get(a) == regs.get(b))),
-            Step::Pick { d, a, b } => (d, regs.get(if regs.get(a) != 0 { b } else { d })),
-            _ => return,
-        };
-        regs.set(d, word);
     }
 }
 
@@ -329,16 +330,52 @@ fn way(inward: bool, next: usize, past: u16) -> (Choice, usize) {
 }
 
 #[inline(always)]
-fn inside(index: u32, len: u16) -> Option<usize> {
-    (index < u32::from(len)).then_some(index as usize)
+fn again(more: bool, next: usize, body: u16) -> (Choice, usize) {
+    if more {
+        (Choice::Inward, usize::from(body))
+    } else {
+        (Choice::Past, next)
+    }
+}
+
+impl Cell {
+    #[inline(always)]
+    fn window(self) -> Window {
+        Window {
+            first: usize::from(self.first),
+            len: usize::from(self.len),
+        }
+    }
 }
 
 #[inline(always)]
-fn window(first: u16, len: u16) -> Window {
-    Window {
-        first: usize::from(first),
-        len: usize::from(len),
+fn load<M: Memory + ?Sized>(
+    cell: Cell,
+    next: usize,
+    memory: &mut M,
+    regs: &mut Registers,
+) -> (Choice, usize) {
+    let index = regs.get(cell.a);
+    if index >= u32::from(cell.len) {
+        return (Choice::Fault, OVER);
     }
+    regs.set(cell.d, memory.get(cell.window(), index as usize));
+    (Choice::Onward, next)
+}
+
+#[inline(always)]
+fn store<M: Memory + ?Sized>(
+    cell: Cell,
+    next: usize,
+    memory: &mut M,
+    regs: &mut Registers,
+) -> (Choice, usize) {
+    let index = regs.get(cell.a);
+    if index >= u32::from(cell.len) {
+        return (Choice::Fault, OVER);
+    }
+    memory.set(cell.window(), index as usize, regs.get(cell.d));
+    (Choice::Onward, next)
 }
 
 /// Runs a program of either kind, if all that it may take is there.

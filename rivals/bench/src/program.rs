@@ -11,7 +11,7 @@ pub const MOST_LENGTH: usize = 1_024;
 pub const MOST_CELLS: usize = 4_096;
 pub const MOST_ROUNDS: u32 = 1_024;
 
-#[derive(Clone, Copy, Debug, Default, PartialEq, Eq)]
+#[derive(Clone, Copy, Debug, Default, PartialEq, Eq, PartialOrd, Ord)]
 #[repr(u8)]
 pub enum Op {
     #[default]
