@@ -2,7 +2,7 @@
 
 use crate::program::{
     HandedBack, Header, Instruction, Kind, Op, Program, Table, MOST_CELLS, MOST_LENGTH, MOST_OPEN,
-    MOST_ROUNDS, MOST_TABLES,
+    MOST_ROUNDS, MOST_TABLES, OPS,
 };
 use crate::refusal::{Reason, Refusal};
 
@@ -19,7 +19,7 @@ pub fn read(image: &[u8], mut list: Vec<Instruction>) -> Result<Program, HandedB
         Ok(parts) => parts,
         Err(refusal) => return Err(HandedBack { refusal, list }),
     };
-    for (entry, bytes) in list.iter_mut().zip(body.chunks_exact(STEP)) {
+    for (entry, bytes) in list.iter_mut().zip(steps(body)) {
         *entry = instruction(bytes);
     }
     Ok(Program {
@@ -102,7 +102,8 @@ fn parse_tables(bytes: &[u8], count: usize) -> Option<[Table; MOST_TABLES]> {
 }
 
 /// What the fields of an op must be below; a field that is not used must be below 1. `k` has a
-/// lowest value too.
+/// lowest and a highest value.
+#[derive(Clone, Copy)]
 struct Limits {
     d: u8,
     a: u8,
@@ -110,7 +111,7 @@ struct Limits {
     k: (u32, u32),
 }
 
-fn limits(op: Op, regs: u8, tables: u8) -> Limits {
+const fn limits(op: Op, regs: u8, tables: u8) -> Limits {
     let zero = (0, 0);
     let (d, a, b, k) = match op {
         Op::Const => (regs, 1, 1, (0, u32::MAX)),
@@ -125,24 +126,49 @@ fn limits(op: Op, regs: u8, tables: u8) -> Limits {
     Limits { d, a, b, k }
 }
 
-fn word(bytes: &[u8]) -> u32 {
+type AllLimits = [Limits; OPS.len()];
+
+const fn all_limits(regs: u8) -> AllLimits {
+    let mut all = [limits(Op::Const, regs, 0); OPS.len()];
+    let mut number = 0;
+    while number < OPS.len() {
+        all[number] = limits(OPS[number], regs, 0);
+        number += 1;
+    }
+    all
+}
+
+/// The limits of all ops but for the number of tables, so that a reading only has to fill that in.
+static LIMITS: [AllLimits; 2] = [
+    all_limits(Kind::Source.registers()),
+    all_limits(Kind::Converted.registers()),
+];
+
+fn word(bytes: &[u8; STEP]) -> u32 {
     u32::from_le_bytes([bytes[4], bytes[5], bytes[6], bytes[7]])
 }
 
+fn steps(body: &[u8]) -> &[[u8; STEP]] {
+    body.as_chunks().0
+}
+
 fn check_fields(header: &Header, body: &[u8]) -> Result<(), Refusal> {
-    let regs = header.kind.registers();
-    let good = |bytes: &[u8]| {
-        Op::numbered(bytes[0]).is_some_and(|op| {
-            let most = limits(op, regs, header.table_count);
+    let mut all = LIMITS[header.kind as usize];
+    for op in [Op::Load, Op::Store] {
+        all[op as usize].b = header.table_count;
+    }
+    let good = |bytes: &[u8; STEP]| {
+        all.get(usize::from(bytes[0])).is_some_and(|most| {
             let k = word(bytes);
-            bytes[1] < most.d
-                && bytes[2] < most.a
-                && bytes[3] < most.b
-                && most.k.0 <= k
-                && k <= most.k.1
+            // Not cut short: each test is cheaper than a guess which of them fails.
+            (bytes[1] < most.d)
+                & (bytes[2] < most.a)
+                & (bytes[3] < most.b)
+                & (most.k.0 <= k)
+                & (k <= most.k.1)
         })
     };
-    match body.chunks_exact(STEP).position(|bytes| !good(bytes)) {
+    match steps(body).iter().position(|bytes| !good(bytes)) {
         Some(place) => Err(Reason::BadField.at(place)),
         None => Ok(()),
     }
@@ -176,6 +202,7 @@ impl Around {
         Ok(())
     }
 
+    /// Passes a bracket.
     fn pass(&mut self, op: u8, place: usize) -> Result<(), Refusal> {
         const IF: u8 = Op::If as u8;
         const ELSE: u8 = Op::Else as u8;
@@ -183,7 +210,6 @@ impl Around {
         const REPEAT: u8 = Op::Repeat as u8;
         const AGAIN: u8 = Op::Again as u8;
         match (op, self.top().map(|top| &mut top.0)) {
-            (..IF, _) => {}
             (IF, _) => self.push(Opening::If, place)?,
             (REPEAT, _) => self.push(Opening::Repeat, place)?,
             (ELSE, Some(top @ Opening::If)) => *top = Opening::IfElse,
@@ -200,8 +226,10 @@ fn check_brackets(body: &[u8]) -> Result<(), Refusal> {
         open: [(Opening::If, 0); MOST_OPEN],
         depth: 0,
     };
-    for (place, bytes) in body.chunks_exact(STEP).enumerate() {
-        around.pass(bytes[0], place)?;
+    for (place, bytes) in steps(body).iter().enumerate() {
+        if bytes[0] >= Op::If as u8 {
+            around.pass(bytes[0], place)?;
+        }
     }
     match around.top() {
         Some(&mut (_, place)) => Err(Reason::BadBracket.at(place)),
@@ -210,7 +238,7 @@ fn check_brackets(body: &[u8]) -> Result<(), Refusal> {
 }
 
 /// An instruction whose fields were checked.
-fn instruction(bytes: &[u8]) -> Instruction {
+fn instruction(bytes: &[u8; STEP]) -> Instruction {
     Instruction {
         op: Op::numbered(bytes[0]).unwrap_or_default(),
         d: bytes[1],

@@ -107,7 +107,7 @@ pub enum Kind {
 }
 
 impl Kind {
-    pub fn registers(self) -> u8 {
+    pub const fn registers(self) -> u8 {
         match self {
             Kind::Source => 16,
             Kind::Converted => 32,
