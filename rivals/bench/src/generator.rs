@@ -15,7 +15,7 @@ impl Random {
         Random(seed)
     }
 
-    pub fn next(&mut self) -> u64 {
+    pub fn any(&mut self) -> u64 {
         self.0 = self.0.wrapping_add(0x9e37_79b9_7f4a_7c15);
         let mut mixed = self.0;
         mixed = (mixed ^ mixed >> 30).wrapping_mul(0xbf58_476d_1ce4_e5b9);
@@ -25,7 +25,7 @@ impl Random {
 
     /// A number below the bound, which is not 0.
     pub fn below(&mut self, bound: usize) -> usize {
-        (self.next() % bound as u64) as usize
+        (self.any() % bound as u64) as usize
     }
 
     pub fn within(&mut self, low: usize, high: usize) -> usize {
@@ -46,7 +46,7 @@ impl Random {
         match self.below(10) {
             0..=5 => self.below(7) as u32,
             6..=7 => self.of(&EDGES),
-            _ => self.next() as u32,
+            _ => self.any() as u32,
         }
     }
 }
@@ -207,7 +207,7 @@ fn tables(random: &mut Random) -> Vec<(usize, bool)> {
 pub fn draft(random: &mut Random, kind: Kind) -> Draft {
     let secret = random.of(&[0, 0xffff, 1 << 3, 0b101]) as u16;
     let secret = if random.chance(50) {
-        random.next() as u16
+        random.any() as u16
     } else {
         secret
     };
@@ -302,7 +302,7 @@ fn hurt(random: &mut Random, image: &mut Vec<u8>) {
     let byte = if random.chance(70) {
         random.of(&BYTES)
     } else {
-        random.next() as u8
+        random.any() as u8
     };
     let steps = image.len().saturating_sub(HEADER) / STEP;
     let anywhere = random.below(image.len().max(1));

@@ -86,31 +86,35 @@ impl Walk {
     /// Brings the place's moves about, and answers the place to go on with.
     fn pass(&mut self, place: usize, step: &Instruction, secret_tables: Set) -> usize {
         let here = self.labels.sets[place];
-        match step.op {
-            Op::If => self.push(Open {
-                place,
-                secret: has(here, step.a),
-                carried: here,
-            }),
-            Op::Repeat => self.push(Open {
-                place,
-                secret: false,
-                carried: here,
-            }),
-            Op::Else => return self.pass_else(place, here),
-            Op::End => {
-                let top = self.pop();
-                self.labels.sets[place] |= top.carried;
-                self.labels.sets[place + 1] |= here | top.carried;
-                return place + 1;
-            }
-            Op::Again => return self.pass_again(place, here),
-            _ => {
-                let masked = self.secret_ifs > 0;
-                self.labels.sets[place + 1] |= leaves(here, step, secret_tables, masked);
-                return place + 1;
-            }
+        if step.op < Op::If {
+            let masked = self.secret_ifs > 0;
+            self.labels.sets[place + 1] |= leaves(here, step, secret_tables, masked);
+            return place + 1;
         }
+        match step.op {
+            Op::Else => self.pass_else(place, here),
+            Op::End => self.pass_end(place, here),
+            Op::Again => self.pass_again(place, here),
+            _ => self.pass_opening(place, here, step),
+        }
+    }
+
+    fn pass_opening(&mut self, place: usize, here: Set, step: &Instruction) -> usize {
+        let secret = step.op == Op::If && has(here, step.a);
+        self.open[self.depth] = Open {
+            place,
+            secret,
+            carried: here,
+        };
+        self.depth += 1;
+        self.secret_ifs += usize::from(secret);
+        self.labels.sets[place + 1] |= here;
+        place + 1
+    }
+
+    fn pass_end(&mut self, place: usize, here: Set) -> usize {
+        let here = here | self.pop().carried;
+        self.labels.sets[place] = here;
         self.labels.sets[place + 1] |= here;
         place + 1
     }
@@ -133,12 +137,6 @@ impl Walk {
         self.pop();
         self.labels.sets[place + 1] |= here | top.carried;
         place + 1
-    }
-
-    fn push(&mut self, open: Open) {
-        self.open[self.depth] = open;
-        self.depth += 1;
-        self.secret_ifs += usize::from(open.secret);
     }
 
     fn pop(&mut self) -> Open {

@@ -79,11 +79,12 @@ pub trait Memory {
     }
 }
 
-/// A memory with cells of its own. An access to cell c shows c div `ROW`.
+/// A memory with cells of its own. An access to cell c shows c div `ROW`. The list for the marks
+/// has its full length from the start, and its first `count` entries are the marks seen.
 pub struct Leaf<const ROW: usize> {
     cells: Vec<u32>,
-    seen: Vec<u32>,
-    limit: usize,
+    list: Vec<u32>,
+    count: usize,
 }
 
 pub type Flat = Leaf<1>;
@@ -112,17 +113,31 @@ impl Banked {
 
 impl<const ROW: usize> Leaf<ROW> {
     fn over(cells: Vec<u32>, limit: usize) -> Self {
-        let limit = limit.min(MOST_MARKS);
+        let list = vec![0; limit.min(MOST_MARKS)];
         Leaf {
             cells,
-            seen: Vec::with_capacity(limit),
-            limit,
+            list,
+            count: 0,
         }
     }
 
     /// The cells, and the marks seen.
-    pub fn into_parts(self) -> (Vec<u32>, Vec<u32>) {
-        (self.cells, self.seen)
+    pub fn into_parts(mut self) -> (Vec<u32>, Vec<u32>) {
+        self.list.truncate(self.count);
+        (self.cells, self.list)
+    }
+
+    #[inline]
+    fn note(&mut self, cell: usize) {
+        self.list[self.count] = (cell / ROW) as u32;
+        self.count += 1;
+    }
+
+    /// The next entries of the list, which are to be filled.
+    fn fresh(&mut self, marks: usize) -> &mut [u32] {
+        let before = self.count;
+        self.count += marks;
+        &mut self.list[before..self.count]
     }
 }
 
@@ -140,48 +155,51 @@ impl<const ROW: usize> Memory for Leaf<ROW> {
     }
 
     fn free(&self) -> usize {
-        self.limit - self.seen.len()
+        self.list.len() - self.count
     }
 
     fn marks(&self) -> usize {
-        self.seen.len()
+        self.count
     }
 
     fn mark(&self, number: usize) -> Option<u32> {
-        self.seen.get(number).copied()
+        self.list[..self.count].get(number).copied()
     }
 
     fn clear(&mut self) {
-        self.seen.clear();
+        self.count = 0;
     }
 
     #[inline]
     fn get(&mut self, table: Window, off: usize) -> u32 {
         let cell = table.first + off;
-        self.seen.push((cell / ROW) as u32);
+        self.note(cell);
         self.cells[cell]
     }
 
     #[inline]
     fn set(&mut self, table: Window, off: usize, word: u32) {
         let cell = table.first + off;
-        self.seen.push((cell / ROW) as u32);
+        self.note(cell);
         self.cells[cell] = word;
     }
 
     // The same as a loop of accesses, with the marks apart from the cells so that each is quick.
     fn scan_get(&mut self, table: Window, off: usize) -> u32 {
         let cells = table.first..table.first + table.len;
-        self.seen
-            .extend(cells.clone().map(|cell| (cell / ROW) as u32));
+        for (mark, cell) in self.fresh(table.len).iter_mut().zip(cells.clone()) {
+            *mark = (cell / ROW) as u32;
+        }
         let pick = |found, (i, &word): (usize, &u32)| if i == off { word } else { found };
         self.cells[cells].iter().enumerate().fold(0, pick)
     }
 
     fn scan_set(&mut self, table: Window, off: usize, word: u32) {
         let cells = table.first..table.first + table.len;
-        self.seen
-            .extend(cells.clone().flat_map(|cell| [(cell / ROW) as u32; 2]));
+        let pairs = self.fresh(2 * table.len).as_chunks_mut().0;
+        for (pair, cell) in pairs.iter_mut().zip(cells.clone()) {
+            *pair = [(cell / ROW) as u32; 2];
+        }
         for (i, cell) in self.cells[cells].iter_mut().enumerate() {
             *cell = if i == off { word } else { *cell };
         }

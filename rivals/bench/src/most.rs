@@ -25,6 +25,20 @@ struct Open {
     rounds: u64,
 }
 
+impl Open {
+    fn at(before: u64, shape: Shape) -> Open {
+        let rounds = match shape {
+            Shape::Repeat(most) => u64::from(most),
+            _ => 0,
+        };
+        Open {
+            before,
+            first_arm: 0,
+            rounds,
+        }
+    }
+}
+
 /// The sum over properly nested shapes, where each bracket that is passed costs `bracket`.
 pub fn most(bracket: u64, shapes: impl Iterator<Item = Shape>) -> usize {
     let held = |sum: u64| sum.min(HELD as u64);
@@ -35,16 +49,7 @@ pub fn most(bracket: u64, shapes: impl Iterator<Item = Shape>) -> usize {
         match shape {
             Shape::Plain(cost) => sum = held(sum + cost as u64),
             Shape::If | Shape::Repeat(_) => {
-                let rounds = if let Shape::Repeat(most) = shape {
-                    u64::from(most)
-                } else {
-                    0
-                };
-                open[depth] = Open {
-                    before: sum,
-                    first_arm: 0,
-                    rounds,
-                };
+                open[depth] = Open::at(sum, shape);
                 depth += 1;
                 sum = 0;
             }
