@@ -190,8 +190,12 @@ impl<const ROW: usize> Memory for Leaf<ROW> {
         for (mark, cell) in self.fresh(table.len).iter_mut().zip(cells.clone()) {
             *mark = (cell / ROW) as u32;
         }
-        let pick = |found, (i, &word): (usize, &u32)| if i == off { word } else { found };
-        self.cells[cells].iter().enumerate().fold(0, pick)
+        // At most one word is kept, so they may be joined in any order, several at a time.
+        let off = off as u32;
+        let kept = (0u32..).zip(&self.cells[cells]);
+        kept.fold(0, |found, (i, &word)| {
+            found | if i == off { word } else { 0 }
+        })
     }
 
     fn scan_set(&mut self, table: Window, off: usize, word: u32) {
@@ -200,7 +204,8 @@ impl<const ROW: usize> Memory for Leaf<ROW> {
         for (pair, cell) in pairs.iter_mut().zip(cells.clone()) {
             *pair = [(cell / ROW) as u32; 2];
         }
-        for (i, cell) in self.cells[cells].iter_mut().enumerate() {
+        let off = off as u32;
+        for (i, cell) in (0u32..).zip(&mut self.cells[cells]) {
             *cell = if i == off { word } else { *cell };
         }
     }
