@@ -346,6 +346,13 @@ impl Cell {
             len: usize::from(self.len),
         }
     }
+
+    /// The index, where it lies in the table.
+    #[inline(always)]
+    fn index(self, regs: &Registers) -> Option<usize> {
+        let index = regs.get(self.a);
+        (index < u32::from(self.len)).then_some(index as usize)
+    }
 }
 
 #[inline(always)]
@@ -355,11 +362,10 @@ fn load<M: Memory + ?Sized>(
     memory: &mut M,
     regs: &mut Registers,
 ) -> (Choice, usize) {
-    let index = regs.get(cell.a);
-    if index >= u32::from(cell.len) {
+    let Some(index) = cell.index(regs) else {
         return (Choice::Fault, OVER);
-    }
-    regs.set(cell.d, memory.get(cell.window(), index as usize));
+    };
+    regs.set(cell.d, memory.get(cell.window(), index));
     (Choice::Onward, next)
 }
 
@@ -370,11 +376,10 @@ fn store<M: Memory + ?Sized>(
     memory: &mut M,
     regs: &mut Registers,
 ) -> (Choice, usize) {
-    let index = regs.get(cell.a);
-    if index >= u32::from(cell.len) {
+    let Some(index) = cell.index(regs) else {
         return (Choice::Fault, OVER);
-    }
-    memory.set(cell.window(), index as usize, regs.get(cell.d));
+    };
+    memory.set(cell.window(), index, regs.get(cell.d));
     (Choice::Onward, next)
 }
 
