@@ -46,6 +46,3 @@ grew_both true true x y z f g = record { same = λ h. let w : ◌≡◌ {A = ℕ
 grew_both true false x y z f g = record { same = λ h. let w : ◌≡◌ {A = ℕ} 0 1 = cc in absurd (omega arith); less = λ h. subst (λ l. room l < room x) (sym (g.same refl)) (f.less refl) }
 grew_both false true x y z f g = record { same = λ h. let w : ◌≡◌ {A = ℕ} 0 1 = cc in absurd (omega arith); less = λ h. subst (λ l. room z < room l) (f.same refl) (g.less refl) }
 grew_both false false x y z f g = record { same = λ h. g.same refl ∙ f.same refl; less = λ h. let w : ◌≡◌ {A = ℕ} 0 1 = cc in absurd (omega arith) }
-
-pub all_zero : (l : List ℕ) (n : ℕ) → length l ≤ n → ((j : ℕ) → j < n → ◌≡◌ {A = ℕ} (get_or l j 0) 0) → (k : ℕ) → ◌≡◌ {A = ℕ} (get_or l k 0) 0
-all_zero l n h f k = ⊎_elim (λ (x : k < n). f k x) (λ (x : n ≤ k). get_or_past l k 0 (omega arith)) (cases_lt k n)
