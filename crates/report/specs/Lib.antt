@@ -1,2 +1,2 @@
 pub mod Converted
-pub mod Marks
+pub mod Costs
