@@ -2,8 +2,6 @@
 use Rattle.std.proofs.Common.{◌≡◌, ℕ, zero, suc, ◌+◌, ◌<◌, ◌≤◌, cond, List, [], ◌∷◌, map, length, get_or, drop, None, sym, refl, ap, ◌∙◌, arith}
 use mathlib.Core.Path.{fun_ext}
 use Rattle.std.proofs.lemmas.Bool.{lt-ltb}
-use Rattle.instructions.specs.declared.Op.{Op}
-use Rattle.instructions.specs.declared.Op.TheVariants.{Set, Pick, Load, Store}
 use Rattle.instructions.specs.declared.Instruction.{Instruction}
 use Rattle.instructions.specs.declared.Instruction.TheVariants.{Do, If, Else, End, Repeat, Again}
 use Rattle.program.specs.declared.opening.Opening.{Opening}
@@ -14,7 +12,6 @@ use Rattle.program.specs.Hold.{hold}
 use Rattle.memory.specs.declared.Access.{Access}
 use Rattle.memory.specs.declared.Access.TheVariants.{Read, Write}
 use Rattle.machine.specs.States.{held}
-use Rattle.machine.specs.Fits.{FitOp, Fit}
 use Rattle.machine.specs.Most.{Price, price}
 use Rattle.program.proofs.Refusals.{no_some, opens}
 use Rattle.machine.proofs.Around.{closers, closers_open, around}

@@ -1,5 +1,5 @@
 -- What writing leaves, and how it is read.
-use Rattle.std.proofs.Common.{◌≡◌, ℕ, ◌+◌, ◌*◌, ◌^◌, ◌<◌, ◌≤◌, true, false, eqb, leb, List, [], ◌++◌, length, get_or, take, drop, is_some, Some, None, Ok, vec_items, Option, sym, refl, ap, ◌∙◌, subst, arith, length-append}
+use Rattle.std.proofs.Common.{◌≡◌, ℕ, ◌+◌, ◌*◌, ◌^◌, ◌<◌, ◌≤◌, true, eqb, leb, List, [], ◌++◌, length, get_or, take, drop, None, Ok, vec_items, sym, ap, ◌∙◌, subst, arith, length-append}
 use borrow.Rule.Slice.PartMut.{put_mid}
 use Rattle.std.proofs.lemmas.List.{take_at, drop_at}
 use Rattle.std.proofs.lemmas.Bool.{le-leb, eq-eqb, cond-false, le-ltb}
@@ -8,7 +8,6 @@ use Rattle.instructions.specs.declared.Instruction.TheVariants.{Again}
 use Rattle.program.specs.declared.header.Header.{Header}
 use Rattle.program.specs.declared.program.Program.{Program}
 use Rattle.program.specs.declared.refusal.Reason.TheVariants.{NoHeader, BadHeader, BadLength, BadField}
-use Rattle.program.specs.declared.refusal.Refusal.{Refusal}
 use Rattle.program.specs.Refusals.{unless, or_else}
 use Rattle.program.specs.Headers.{registers_of}
 use Rattle.program.specs.Pairing.{pairing}

@@ -1,5 +1,5 @@
 -- No program is longer than the longest.
-use Rattle.std.proofs.Common.{ℕ, ◌≤◌, arith}
+use Rattle.std.proofs.Common.{◌≤◌, arith}
 use Rattle.program.specs.declared.header.Kind.{Kind}
 use Rattle.program.specs.declared.header.Kind.TheVariants.{Source, Converted}
 use Rattle.program.specs.Headers.{longest}
