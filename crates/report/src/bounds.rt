@@ -1,8 +1,9 @@
 // The most steps and the most marks of a program.
-ghost use Rattle.std.specs.Prelude.{◌≡◌};
+ghost use Rattle.std.specs.Prelude.{◌≡◌, Some};
 ghost use Rattle.program.specs.Programs.{code_of};
 ghost use Rattle.counting.specs.Counting.{most_steps, most_marks};
 ghost use Rattle.report.specs.Costs.{flat_cost, scan_cost};
+ghost use Rattle.report.specs.Bounds.{bounds_text};
 
 use banked::Banked;
 use counting::{most_marks, most_steps};
@@ -47,6 +48,8 @@ pub fn bounds_of(heap: Global, program: &Program) -> Bounds
 }
 
 impl fmt::Display for Bounds {
+    ghost output = { λ b. Some (bounds_text b.steps b.flat b.banked b.scanned) };
+
     fn fmt<W: fmt::Write>(&self, f: &mut fmt::Formatter<W>) -> fmt::Result {
         let steps = self.steps;
         let flat = self.flat;
