@@ -1,8 +1,6 @@
 -- A memory of four banks of 256 rows, which shows only the row of each cell.
 use Rattle.std.specs.Prelude.{ℕ, ◌/◌, ◌%◌, List, [], map, slice_index, slice_index_or}
 use Rattle.std.specs.List.{range_with_len}
-use Rattle.memory.specs.Description.{Mark, Description}
-use Rattle.leaf.specs.Leaves.{leaf}
 
 abbrev pub row_of : ℕ → ℕ
 row_of cell = cell / 4
@@ -17,6 +15,3 @@ word_at banks cell = slice_index (slice_index_or banks (bank_of cell) []) (row_o
 -- the cells, in the order of their numbers
 unfoldable pub cells_of : List (List ℕ) → List ℕ
 cells_of banks = map (word_at banks) (range_with_len 0 1024)
-
-abbrev pub banked : List (List ℕ) → List Mark → ℕ → Description
-banked banks list count = leaf row_of (cells_of banks) list count

@@ -11,7 +11,7 @@ use std::alloc::{AllocError, Global};
 /// How many cells there are.
 const CELLS: usize = 1024;
 
-/// Cell c is at row c / 4 of bank c % 4.
+/// Cells in four banks of 256 rows: cell c is at row c / 4 of bank c % 4.
 #[derive(Drop)]
 pub struct Banked {
     banks: [[u32; 256]; 4],

@@ -24,7 +24,7 @@ use Rattle.machine.proofs.Programs.{code_short}
 use Rattle.header.specs.Layout.{header_at}
 use Rattle.header.proofs.Rewritten.{Bytes, header_sound}
 use Rattle.image.specs.Images.{instruction_at, code_at, image_refusal, read_refusal}
-use Rattle.image.proofs.Answering.{header_good_lem}
+use Rattle.image.proofs.Answering.{header_is_good}
 use Rattle.conversion.specs.Conversion.{becomes, convert}
 use Rattle.converter.specs.Converting.{result_of, place_refusal, convert_refusal}
 use Rattle.converter.proofs.Results.{source_short}
@@ -40,7 +40,7 @@ module _ (bs : List ℕ) (bytes : Bytes bs) where
 
   image_short : image_refusal bs ≡ None → (header_at bs).count ≤ 3000
   image_short e =
-      let s = header_sound bs bytes (header_good_lem bs e) in
+      let s = header_sound bs bytes (header_is_good bs e) in
       omega (arith, longest_short (header_at bs).kind, s.short)
 
   with_room : (r : Option Refusal) (n : ℕ) → (r ≡ None → n ≤ 3000) → or_else r (unless (leb n 3000) NoRoomForCode n) ≡ r

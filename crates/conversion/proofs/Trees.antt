@@ -6,7 +6,7 @@ use Rattle.program.specs.Pairing.{pairing}
 use Rattle.program.specs.Bounds.{bound}
 use Rattle.program.specs.Blocks.{Block, done, flat}
 use Rattle.brackets.proofs.Nesting.{paired_is_nested}
-use Rattle.machine.proofs.Around.{none}
+use Rattle.program.proofs.Refusals.{none}
 use Rattle.groups.specs.Groups.{lengths}
 use Rattle.conversion.specs.Conversion.{convert}
 use Rattle.conversion.specs.Trees.{Trees}

@@ -23,10 +23,9 @@ use Rattle.labels.proofs.Reckoning.{reckoned}
 use Rattle.plan.specs.Planned.{plan_of, Passable}
 use Rattle.plan.proofs.Steps.{passable}
 use Rattle.program.specs.Programs.{code_of}
-use Rattle.machine.proofs.Fitting.{fits}
+use Rattle.machine.proofs.Fitting.{fits, fits_eight}
 use Rattle.machine.proofs.Programs.{code_long, code_pairs}
 use Rattle.counting.specs.Counting.{Countable}
-use Rattle.counting.proofs.Adding.{fits_eight}
 use Rattle.groups.specs.Groups.{lengths}
 use Rattle.converter.specs.Converting.{result_of, result_header}
 use Rattle.converter.proofs.Shapes.{shaped, placed}

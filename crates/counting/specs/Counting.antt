@@ -4,14 +4,15 @@ use Rattle.instructions.specs.declared.Instruction.{Instruction}
 use Rattle.instructions.specs.declared.Instruction.TheVariants.{Do, If, Else, End, Repeat, Again}
 use Rattle.program.specs.declared.header.Table.{Table}
 use Rattle.program.specs.Pairing.{pairing}
+use Rattle.program.specs.Hold.{hold}
 use Rattle.program.specs.Blocks.{Block, flat}
 use Rattle.stack.specs.Items.{below, swapped}
 use Rattle.memory.specs.declared.Access.{Access}
 use Rattle.memory.specs.declared.Access.TheVariants.{Read, Write}
 use Rattle.machine.specs.States.{held}
 use Rattle.machine.specs.Fits.{Fit}
-use Rattle.machine.specs.Most.{Price, each_step, hold, price, most_of}
-use Rattle.counting.specs.declared.part.Part.{Part}
+use Rattle.machine.specs.Most.{Price, each_step, price, most_of}
+use Rattle.counting.specs.declared.open_bracket.OpenBracket.{OpenBracket}
 use Rattle.counting.specs.declared.price.TablePrice.{TablePrice}
 
 -- the sum over the nested blocks that these instructions are, held at 1,000,001
@@ -25,31 +26,31 @@ pub record Countable (code : List Instruction) : Type 0 where
 
 -- an open bracket: what was counted before it, what its first arm counts with the step of the else
 -- after it, and how often it goes round
-abbrev pub part : ℕ → ℕ → ℕ → Part
-part before least rounds = record { before = before; least = least; rounds = rounds }
+abbrev pub open_bracket : ℕ → ℕ → ℕ → OpenBracket
+open_bracket before first_arm rounds = record { before = before; first_arm = first_arm; rounds = rounds }
 
 -- the innermost bracket that is open
-abbrev pub innermost : List Part → Part
-innermost [] = part 0 0 0
+abbrev pub innermost : List OpenBracket → OpenBracket
+innermost [] = open_bracket 0 0 0
 innermost (f ∷ fs) = f
 
 -- what an if, without its else or with it, counts when its last arm counts x
-abbrev pub arms : Price → Part → ℕ → ℕ
-arms w f x = f.before + ((w.step + w.step) + max f.least x)
+abbrev pub arms : Price → OpenBracket → ℕ → ℕ
+arms w f x = f.before + ((w.step + w.step) + max f.first_arm x)
 
 -- what a repeat counts when its body counts x
-abbrev pub turns : Price → Part → ℕ → ℕ
+abbrev pub turns : Price → OpenBracket → ℕ → ℕ
 turns w f x = f.before + (w.step + f.rounds * (x + w.step))
 
 module _ (w : Price) where
   -- the same sum by one pass: inside these brackets x was counted so far
-  abbrev pub sums : List Part → ℕ → List Instruction → ℕ
+  abbrev pub sums : List OpenBracket → ℕ → List Instruction → ℕ
   sums fs x [] = x
   sums fs x (Do op ∷ is) = sums fs (hold (x + price w op)) is
-  sums fs x (If a ∷ is) = sums (part x 0 0 ∷ fs) 0 is
-  sums fs x (Else ∷ is) = sums (swapped (part (innermost fs).before (x + w.step) 0) fs) 0 is
+  sums fs x (If a ∷ is) = sums (open_bracket x 0 0 ∷ fs) 0 is
+  sums fs x (Else ∷ is) = sums (swapped (open_bracket (innermost fs).before (x + w.step) 0) fs) 0 is
   sums fs x (End ∷ is) = sums (below fs) (hold (arms w (innermost fs) x)) is
-  sums fs x (Repeat a k ∷ is) = sums (part x 0 k ∷ fs) 0 is
+  sums fs x (Repeat a k ∷ is) = sums (open_bracket x 0 k ∷ fs) 0 is
   sums fs x (Again ∷ is) = sums (below fs) (hold (turns w (innermost fs) x)) is
 
 -- the most steps of a program
@@ -85,14 +86,14 @@ priced step tables = record {
 }
 
 -- one bracket more, where there is room
-abbrev pub entered : Part → List Part → List Part
+abbrev pub entered : OpenBracket → List OpenBracket → List OpenBracket
 entered f fs = cond (nat_lt (length fs) 8) (f ∷ fs) fs
 
 -- what the pass does at one instruction: to the brackets, and to what was counted
-abbrev pub Added : Price → Instruction → List Part → ℕ → List Part → ℕ → Type 0
+abbrev pub Added : Price → Instruction → List OpenBracket → ℕ → List OpenBracket → ℕ → Type 0
 Added w (Do op) fs x fs' x' = (fs' ≡ fs) × (x' ≡ hold (x + price w op))
-Added w (If a) fs x fs' x' = (fs' ≡ entered (part x 0 0) fs) × (x' ≡ 0)
-Added w Else fs x fs' x' = (fs' ≡ swapped (part (innermost fs).before (x + w.step) 0) fs) × (x' ≡ 0)
+Added w (If a) fs x fs' x' = (fs' ≡ entered (open_bracket x 0 0) fs) × (x' ≡ 0)
+Added w Else fs x fs' x' = (fs' ≡ swapped (open_bracket (innermost fs).before (x + w.step) 0) fs) × (x' ≡ 0)
 Added w End fs x fs' x' = (fs' ≡ below fs) × (x' ≡ hold (arms w (innermost fs) x))
-Added w (Repeat a k) fs x fs' x' = (fs' ≡ entered (part x 0 k) fs) × (x' ≡ 0)
+Added w (Repeat a k) fs x fs' x' = (fs' ≡ entered (open_bracket x 0 k) fs) × (x' ≡ 0)
 Added w Again fs x fs' x' = (fs' ≡ below fs) × (x' ≡ hold (turns w (innermost fs) x))

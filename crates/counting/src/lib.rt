@@ -13,7 +13,7 @@ use instructions::Instruction;
 use memory::{Access, Memory};
 use program::program::Program;
 
-mod part;
+mod open_bracket;
 mod pass;
 mod price;
 

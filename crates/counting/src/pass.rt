@@ -2,10 +2,11 @@
 ghost use Rattle.std.specs.Prelude.{◌≡◌, ◌+◌, ◌≤◌, []};
 ghost use Rattle.stack.specs.Held.{held};
 ghost use Rattle.machine.specs.Fits.{FitOp, Fit};
-ghost use Rattle.machine.specs.Most.{hold, price};
-ghost use Rattle.counting.specs.Counting.{part as bracket, entered, priced, Added, sums, Countable};
+ghost use Rattle.program.specs.Hold.{hold};
+ghost use Rattle.machine.specs.Most.{price};
+ghost use Rattle.counting.specs.Counting.{open_bracket, entered, priced, Added, sums, Countable};
 
-use crate::part::Part;
+use crate::open_bracket::OpenBracket;
 use crate::price::Price;
 use instructions::{Instruction, Op};
 use stack::Stack;
@@ -17,7 +18,7 @@ const HELD: usize = 1_000_001;
 /// The open brackets, and what is counted so far inside the innermost.
 #[derive(Drop)]
 struct Pass {
-    parts: Stack<Part>,
+    brackets: Stack<OpenBracket>,
     sum: usize,
     ghost small: { sum ≤ 1000001 },
 }
@@ -47,12 +48,12 @@ fn with_op(sum: usize, op: Op, prices: &Price) -> usize
 impl Pass {
     // A bracket opens, and goes round so often.
     fn enter(&mut self, rounds: usize)
-        ensures inside { held self.new.parts ≡ entered (bracket self.old.sum 0 rounds) (held self.old.parts) }
+        ensures inside { held self.new.brackets ≡ entered (open_bracket self.old.sum 0 rounds) (held self.old.brackets) }
         ensures none { self.new.sum ≡ 0 }
     {
-        let _ = self.parts.push(Part {
+        let _ = self.brackets.push(OpenBracket {
             before: self.sum,
-            least: 0,
+            first_arm: 0,
             rounds,
         });
         self.sum = 0;
@@ -61,30 +62,30 @@ impl Pass {
     // Passes the instruction.
     fn add(&mut self, instruction: Instruction, prices: &Price)
         requires { Fit 32 8 instruction }
-        ensures { Added (priced prices.now.step prices.now.tables) instruction (held self.old.parts) self.old.sum (held self.new.parts) self.new.sum }
+        ensures { Added (priced prices.now.step prices.now.tables) instruction (held self.old.brackets) self.old.sum (held self.new.brackets) self.new.sum }
     {
-        let part = self.parts.top().unwrap_or_default();
+        let bracket = self.brackets.top().unwrap_or_default();
         let step = prices.step;
         match instruction {
             Instruction::Do { op } => self.sum = with_op(self.sum, op, prices),
             Instruction::If { .. } => self.enter(0),
             Instruction::Else => {
-                self.parts.swap(Part {
-                    before: part.before,
-                    least: self.sum + step,
+                self.brackets.swap(OpenBracket {
+                    before: bracket.before,
+                    first_arm: self.sum + step,
                     rounds: 0,
                 });
                 self.sum = 0;
             }
             Instruction::End => {
-                self.parts.pop();
-                self.sum = total(part.before, 2 * step, part.least.max(self.sum));
+                self.brackets.pop();
+                self.sum = total(bracket.before, 2 * step, bracket.first_arm.max(self.sum));
             }
             Instruction::Repeat { most, .. } => self.enter(most as usize),
             Instruction::Again => {
-                self.parts.pop();
-                let rounds = part.rounds.saturating_mul(self.sum + step);
-                self.sum = total(part.before, step, rounds);
+                self.brackets.pop();
+                let rounds = bracket.rounds.saturating_mul(self.sum + step);
+                self.sum = total(bracket.before, step, rounds);
             }
         }
     }
@@ -96,7 +97,7 @@ pub fn most(code: &[Instruction], prices: &Price) -> usize
     ensures { result ≡ sums (priced prices.now.step prices.now.tables) [] 0 code.now }
 {
     let mut pass = Pass {
-        parts: Stack::new(Part::default()),
+        brackets: Stack::new(OpenBracket::default()),
         sum: 0,
     };
     for instruction in code {

@@ -1,14 +1,16 @@
 -- The whole run of a block.
-use Rattle.std.proofs.Common.{◌≡◌, ℕ, zero, suc, ◌+◌, ◌-◌, ◌≤◌, List, [], ◌∷◌, length, drop, sym, refl, ap, ◌∙◌, arith}
+use Rattle.std.proofs.Common.{◌≡◌, ℕ, zero, suc, ◌+◌, ◌-◌, ◌≤◌, List, [], ◌∷◌, length, drop, sym, refl, ap, ◌∙◌, subst, arith}
 use Rattle.instructions.specs.declared.Instruction.{Instruction}
 use Rattle.instructions.specs.declared.Instruction.TheVariants.{Else, End, Again}
 use Rattle.program.specs.declared.header.Table.{Table}
+use Rattle.program.specs.declared.opening.Opening.{Opening}
+use Rattle.program.proofs.Around.{around_none}
 use Rattle.program.specs.Blocks.{Block, done, one, if_then, if_else, loop, flat, depth, fin}
 use Rattle.machine.specs.States.{State}
 use Rattle.machine.specs.Machine.{Out, fine, fault, Conf, go, state_of, land, step, next, steps, count}
 use Rattle.machine.specs.Nested.{exec}
 use Rattle.machine.specs.Most.{Price, each_step, weigh, most_of}
-use Rattle.execution.specs.Runs.{Whole, RunsEnd}
+use Rattle.execution.specs.Runs.{Inside, Whole, RunsEnd}
 use Rattle.execution.proofs.ByPlaces.{seen, Reach, runs, through, split_steps}
 use Rattle.execution.proofs.Counted.{state_in, adds, counted}
 use Rattle.execution.proofs.Grows.{steps_grow}
@@ -38,7 +40,7 @@ long (loop a k t b) p is = let e = long t (suc p) (Again ∷ flat b is) in let f
 
 module _ {Note : Type 0} (tables : List Table) (b : Block Note) (x : State) (d : depth b ≤ 8) where
   reach : Reach tables (flat b []) (go 0 [] x) (land (exec tables b 0 x) (fin b 0) [])
-  reach = runs tables (flat b []) b 0 [] refl [] x (omega arith) tt
+  reach = runs tables (flat b []) b 0 [] refl [] x (omega arith) (subst (λ (os : List Opening). Inside os []) (around_none (flat b [])) tt)
 
   ends : fin b 0 ≡ length (flat b [])
   ends = let f = long b 0 [] in omega arith

@@ -1,26 +1,17 @@
 -- Laws of whole runs.
-use Rattle.std.specs.Prelude.{◌≡◌, ℕ, suc, ◌+◌, ◌<◌, ◌≤◌, List, [], ◌∷◌, length, take, drop}
+use Rattle.std.specs.Prelude.{◌≡◌, ℕ, suc, ◌+◌, ◌<◌, ◌≤◌, List, [], ◌∷◌, length, drop}
 use Rattle.instructions.specs.declared.Instruction.{Instruction}
 use Rattle.instructions.specs.declared.Instruction.TheVariants.{Do, If, Else, End, Repeat, Again}
 use Rattle.program.specs.declared.header.Table.{Table}
 use Rattle.program.specs.declared.opening.Opening.{Opening}
 use Rattle.program.specs.declared.opening.Opening.TheVariants.{Then, Otherwise, Loop}
-use Rattle.program.specs.Openings.{past}
+use Rattle.program.specs.Openings.{around}
 use Rattle.program.specs.Blocks.{Block, flat, depth}
 use Rattle.machine.specs.declared.repeat.OpenRepeat.{OpenRepeat}
 use Rattle.machine.specs.States.{State}
 use Rattle.machine.specs.Machine.{Conf, go, stop, state_of, land, steps, count}
 use Rattle.machine.specs.Nested.{exec}
 use Rattle.machine.specs.Most.{Price, each_step, weigh, most_of}
-
--- what is open after these instructions, the first of them at place q inside the openings os
-abbrev pub passed : ℕ → List Opening → List Instruction → List Opening
-passed q os [] = os
-passed q os (i ∷ is) = passed (suc q) (past q i os) is
-
--- what is open around place p
-abbrev pub open_around : List Instruction → ℕ → List Opening
-open_around code p = passed 0 [] (take p code)
 
 -- the open repeats are the repeats among these openings, one for one, and each has rounds left
 abbrev pub Inside : List Opening → List OpenRepeat → Type 0
@@ -45,7 +36,7 @@ Able (Again ∷ is) (f ∷ fs) = Unit {0}
 
 -- the run is not over: a step can be taken, and what is open is what stands open around the place
 abbrev pub Running : List Instruction → Conf → Type 0
-Running code (go p fs s) = Able (drop p code) fs × Inside (open_around code p) fs
+Running code (go p fs s) = Able (drop p code) fs × Inside (around code p) fs
 Running code (stop p s) = ⊥
 
 -- the run is over: at the end of the code with no repeat open, or at a fault

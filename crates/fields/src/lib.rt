@@ -1,4 +1,4 @@
-// An instruction as the image has it: an op and four fields, in eight bytes.
+// An instruction as the image has it: an op and four more fields, in eight bytes.
 #![tactic(auto)]
 
 pub mod codec;

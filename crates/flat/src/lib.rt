@@ -11,7 +11,7 @@ use memory::Mark;
 /// The most cells that count.
 const MOST: usize = 65536;
 
-/// Of the cells the first 65,536 count.
+/// Cells that are handed in; the first 65,536 count.
 #[derive(Drop)]
 pub struct Flat {
     pub cells: Vec<u32>,

@@ -4,12 +4,13 @@ use Rattle.std.proofs.Common.{ap, ⊎_elim, zero-mul, suc-mul, mul-le-mul_right,
 use Rattle.std.proofs.lemmas.Bool.{cases_lt}
 use Rattle.memory.specs.declared.Access.{Access}
 use Rattle.memory.specs.declared.Access.TheVariants.{Read, Write}
-use Rattle.memory.specs.Description.{Description, held, free}
+use Rattle.program.specs.Hold.{hold}
+use Rattle.memory.specs.Description.{Description, free}
 use Rattle.memory.specs.Laws.{Within, Lawful}
 use Rattle.full_scan.specs.Scan.{turn, turns, turn_cost, scan_over}
 
 module _ (d : Description) (laws : Lawful d) (base len : ℕ) (fits : base + len ≤ length d.cells) where
-  turn-length : (k : Access) (off : ℕ) → off < len → held (length (turn d.rules.shows k base len off)) ≡ held (turn_cost d.rules.cost k len)
+  turn-length : (k : Access) (off : ℕ) → off < len → hold (length (turn d.rules.shows k base len off)) ≡ hold (turn_cost d.rules.cost k len)
   turn-length Read off h =
       let p = laws.priced Read base len off (record { below = h; fits = fits }) in
       omega arith
@@ -19,10 +20,10 @@ module _ (d : Description) (laws : Lawful d) (base len : ℕ) (fits : base + len
       let l = length-append (d.rules.shows Read base len off) (d.rules.shows Write base len off) in
       omega arith
 
-  turns-held : (k : Access) (n : ℕ) → n ≤ len → held (length (turns d.rules.shows k base len n)) ≡ held (n * turn_cost d.rules.cost k len)
-  turns-held k zero h = let z = zero-mul (turn_cost d.rules.cost k len) in omega arith
-  turns-held k (suc n) h =
-      let p = turns-held k n (omega arith) in
+  turns-hold : (k : Access) (n : ℕ) → n ≤ len → hold (length (turns d.rules.shows k base len n)) ≡ hold (n * turn_cost d.rules.cost k len)
+  turns-hold k zero h = let z = zero-mul (turn_cost d.rules.cost k len) in omega arith
+  turns-hold k (suc n) h =
+      let p = turns-hold k n (omega arith) in
       let t = turn-length k n (omega arith) in
       let l = length-append (turns d.rules.shows k base len n) (turn d.rules.shows k base len n) in
       let m = suc-mul n (turn_cost d.rules.cost k len) in
@@ -31,7 +32,7 @@ module _ (d : Description) (laws : Lawful d) (base len : ℕ) (fits : base + len
   -- where the whole cost is within some room, the length is the sum itself
   turns-length : (k : Access) (n : ℕ) → n ≤ len → len * turn_cost d.rules.cost k len ≤ 1000000 → length (turns d.rules.shows k base len n) ≡ n * turn_cost d.rules.cost k len
   turns-length k n h few =
-      let p = turns-held k n h in
+      let p = turns-hold k n h in
       let le = mul-le-mul_right (turn_cost d.rules.cost k len) h in
       omega arith
 
@@ -45,7 +46,7 @@ module _ (d : Description) (laws : Lawful d) (base len : ℕ) (fits : base + len
       omega arith
 
 -- a cost as code computes it, from sums and products that stop at the largest number
-pub stopped : (len x turn : ℕ) → turn ≡ min x 18446744073709551615 → min (min (len * turn) 18446744073709551615) 1000001 ≡ held (len * x)
+pub stopped : (len x turn : ℕ) → turn ≡ min x 18446744073709551615 → min (min (len * turn) 18446744073709551615) 1000001 ≡ hold (len * x)
 stopped zero x turn e = let a = zero-mul turn in let b = zero-mul x in omega arith
 stopped (suc n) x turn e =
     ⊎_elim
@@ -60,7 +61,7 @@ turn_paid d laws Write base len off w = let p = laws.shown Read base len off w i
 pub scan_lawful : (d : Description) → Lawful d → Lawful (scan_over d)
 scan_lawful d laws = record {
   limited = laws.limited;
-  priced = λ k base len off w. turns-held d laws base len w.fits k len (omega arith);
+  priced = λ k base len off w. turns-hold d laws base len w.fits k len (omega arith);
   shown = λ k base len off w.
       let v : Within d base len off = record { below = w.below; fits = w.fits } in
       let p = turn_paid d laws k base len off v in

@@ -1,5 +1,5 @@
 -- A header that was written is read as the same header.
-use Rattle.std.proofs.Common.{◌≡◌, ℕ, zero, suc, ◌+◌, ◌-◌, ◌*◌, ◌/◌, ◌%◌, ◌<◌, ◌≤◌, Bool, true, false, cond, not, eqb, ltb, leb, List, [], ◌∷◌, ◌++◌, length, get_or, replicate, sym, refl, ap, ◌∙◌, mul-zero, mul-suc, arith}
+use Rattle.std.proofs.Common.{◌≡◌, ℕ, zero, suc, ◌+◌, ◌-◌, ◌*◌, ◌/◌, ◌%◌, ◌<◌, Bool, true, false, cond, not, eqb, ltb, leb, List, [], ◌∷◌, ◌++◌, length, get_or, replicate, sym, refl, ap, ◌∙◌, mul-zero, mul-suc, arith}
 use Rattle.std.specs.List.{flat_map}
 use Rattle.std.proofs.lemmas.List.FromFn.{fill_by_all}
 use Rattle.std.proofs.lemmas.List.{get_or_append_left, get_or-append_right, get_or-append-add, get_or-replicate}
@@ -12,6 +12,7 @@ use Rattle.program.specs.Headers.{kind_of, kind_code, longest, no_table, table_f
 use Rattle.program.specs.Firsts.{all_below}
 use Rattle.program.specs.Sound.{SoundHeader}
 use Rattle.program.proofs.Firsts.{all_true}
+use Rattle.program.proofs.Headers.{longest_short}
 use Rattle.header.specs.Layout.{pair_at, table_at, tables_at, header_at, entry_good, zero_from40, header_good, start_bytes, entry_bytes, header_bytes}
 use Rattle.header.proofs.Written.{length_start, length_entry, length_front, length_header}
 
@@ -35,10 +36,6 @@ kind_forth Converted = refl
 kind_small : (k : Kind) → leb (kind_code k) 1 ≡ true
 kind_small Source = refl
 kind_small Converted = refl
-
-longest_small : (k : Kind) → longest k ≤ 3000
-longest_small Source = omega arith
-longest_small Converted = omega arith
 
 label_forth : (b : Bool) → eqb (cond b 1 0) 1 ≡ b
 label_forth true = refl
@@ -71,8 +68,8 @@ module _ (h : Header) (rest : List ℕ) (sound : SoundHeader h) where
       ∙ get_or-append_right (start_bytes h ++ flat_map entry_bytes h.tables) (replicate 24 0) 40 (40 + k) 0 (length_front h sound.eight) (omega arith)
       ∙ get_or-replicate 24 (40 + k - 40) 0 0 (omega arith)
 
-  table_at_lem : (k : ℕ) → k < 8 → table_at (header_bytes h ++ rest) k ≡ get_or h.tables k no_table
-  table_at_lem k hk =
+  table_reread : (k : ℕ) → k < 8 → table_at (header_bytes h ++ rest) k ≡ get_or h.tables k no_table
+  table_reread k hk =
       let bs = header_bytes h ++ rest in
       let t = get_or h.tables k no_table in
       let e0 : 8 + 4 * k ≡ 8 + 4 * k + 0 = omega arith in
@@ -83,17 +80,17 @@ module _ (h : Header) (rest : List ℕ) (sound : SoundHeader h) where
       let secret : eqb (get_or bs (8 + 4 * k + 2) 0) 1 ≡ t.secret = ap (λ x. eqb x 1) p2 ∙ label_forth t.secret in
       λ i. record { length = len i; secret = secret i }
 
-  entry_good_lem : (k : ℕ) → k < 8 → entry_good (header_bytes h ++ rest) h.used k ≡ true
-  entry_good_lem k hk =
+  entry_is_good : (k : ℕ) → k < 8 → entry_good (header_bytes h ++ rest) h.used k ≡ true
+  entry_is_good k hk =
       let bs = header_bytes h ++ rest in
       let t = get_or h.tables k no_table in
       and_from (leb (get_or bs (8 + 4 * k + 2) 0) 1) _ (ap (λ x. leb x 1) (entry_at k 2 hk (omega arith)) ∙ label_small t.secret)
       (and_from (eqb (get_or bs (8 + 4 * k + 3) 0) 0) _ (eq-eqb _ _ (entry_at k 3 hk (omega arith)))
-      (ap (λ x. table_fits x (ltb k h.used)) (table_at_lem k hk) ∙ sound.tables k hk))
+      (ap (λ x. table_fits x (ltb k h.used)) (table_reread k hk) ∙ sound.tables k hk))
 
-  tables_at_lem : tables_at (header_bytes h ++ rest) ≡ h.tables
+  tables_reread : tables_at (header_bytes h ++ rest) ≡ h.tables
   unfolding tables_at
-  tables_at_lem = sym (fill_by_all (table_at (header_bytes h ++ rest)) h.tables 8 no_table sound.eight (λ k l. sym (table_at_lem k l)))
+  tables_reread = sym (fill_by_all (table_at (header_bytes h ++ rest)) h.tables 8 no_table sound.eight (λ k l. sym (table_reread k l)))
 
   low_at : get_or (header_bytes h ++ rest) 0 0 ≡ 1
   unfolding header_bytes start_bytes
@@ -113,7 +110,7 @@ module _ (h : Header) (rest : List ℕ) (sound : SoundHeader h) where
 
   pub count_at : pair_at (header_bytes h ++ rest) 4 ≡ h.count
   unfolding header_bytes start_bytes
-  count_at = pair_bytes h.count (omega (arith, sound.short, longest_small h.kind))
+  count_at = pair_bytes h.count (omega (arith, sound.short, longest_short h.kind))
 
   secret_at : pair_at (header_bytes h ++ rest) 6 ≡ h.secret_entry
   unfolding header_bytes start_bytes
@@ -124,17 +121,17 @@ module _ (h : Header) (rest : List ℕ) (sound : SoundHeader h) where
 
   pub header_reread : header_at (header_bytes h ++ rest) ≡ h
   unfolding header_at
-  header_reread = λ i. record { kind = kind_is i; tables = tables_at_lem i; used = used_at i; count = count_at i; secret_entry = secret_at i }
+  header_reread = λ i. record { kind = kind_is i; tables = tables_reread i; used = used_at i; count = count_at i; secret_entry = secret_at i }
 
-  pub header_good_lem : header_good (header_bytes h ++ rest) ≡ true
+  pub header_is_good : header_good (header_bytes h ++ rest) ≡ true
   unfolding header_good
-  header_good_lem =
+  header_is_good =
       let bs = header_bytes h ++ rest in
       and_from _ _ (eq-eqb (get_or bs 0 0) 1 low_at)
       (and_from _ _ (eq-eqb (get_or bs 1 0) 0 high_at)
       (and_from _ _ (le-leb (get_or bs 2 0) 8 (omega (arith, used_at, sound.few)))
       (and_from _ _ (ap (λ x. leb x 1) kind_at ∙ kind_small h.kind)
-      (and_from _ _ (ap (λ u. all_below (entry_good bs u) 8) used_at ∙ all_true (entry_good bs h.used) 8 entry_good_lem)
+      (and_from _ _ (ap (λ u. all_below (entry_good bs u) 8) used_at ∙ all_true (entry_good bs h.used) 8 entry_is_good)
       (and_from _ _ ((λ i. leb (count_at i) (longest (kind_is i))) ∙ le-leb h.count (longest h.kind) sound.short)
-      (and_from _ _ (ap (λ ts. leb (cells_of ts) 4096) tables_at_lem ∙ le-leb (cells_of h.tables) 4096 sound.cells)
+      (and_from _ _ (ap (λ ts. leb (cells_of ts) 4096) tables_reread ∙ le-leb (cells_of h.tables) 4096 sound.cells)
       (all_true (zero_from40 bs) 24 (λ k l. eq-eqb _ _ (zero_at k l)))))))))

@@ -13,17 +13,24 @@ use Rattle.program.specs.Firsts.{all_below}
 abbrev pub pair_at : List ℕ → ℕ → ℕ
 pair_at bs i = slice_index bs i + slice_index bs (i + 1) * 256
 
--- the table of an entry: length, label
+-- the table of the entry whose four bytes begin at k: length, label
+abbrev pub table_from : List ℕ → ℕ → Table
+table_from bs k = record { length = pair_at bs k; secret = (slice_index bs (k + 2) == 1) }
+
+-- that entry has the label 0 or 1, a zero byte, and a length that fits its use
+abbrev pub entry_from : List ℕ → ℕ → Bool → Bool
+entry_from bs k used = nat_le (slice_index bs (k + 2)) 1 && (slice_index bs (k + 3) == 0 && table_fits (table_from bs k) used)
+
+-- four bytes as an entry
 abbrev pub table_of : List ℕ → Table
-table_of e = record { length = pair_at e 0; secret = (slice_index e 2 == 1) }
+table_of e = table_from e 0
 
--- an entry has the label 0 or 1, a zero byte, and a length that fits its use
 abbrev pub entry_fits : List ℕ → Bool → Bool
-entry_fits e used = nat_le (slice_index e 2) 1 && (slice_index e 3 == 0 && table_fits (table_of e) used)
+entry_fits e used = entry_from e 0 used
 
--- table entry i: length, label
+-- table entry i of a header
 abbrev pub table_at : List ℕ → ℕ → Table
-table_at bs i = record { length = pair_at bs (8 + 4 * i); secret = (slice_index bs (8 + 4 * i + 2) == 1) }
+table_at bs i = table_from bs (8 + 4 * i)
 
 unfoldable pub tables_at : List ℕ → List Table
 tables_at bs = map (table_at bs) (range_with_len 0 8)
@@ -32,9 +39,8 @@ tables_at bs = map (table_at bs) (range_with_len 0 8)
 unfoldable pub header_at : List ℕ → Header
 header_at bs = record { kind = kind_of (slice_index bs 3); tables = tables_at bs; used = slice_index bs 2; count = pair_at bs 4; secret_entry = pair_at bs 6 }
 
--- entry i has the label 0 or 1, a zero byte, and a length that fits its use
 abbrev pub entry_good : List ℕ → ℕ → ℕ → Bool
-entry_good bs used i = nat_le (slice_index bs (8 + 4 * i + 2)) 1 && (slice_index bs (8 + 4 * i + 3) == 0 && table_fits (table_at bs i) (nat_lt i used))
+entry_good bs used i = entry_from bs (8 + 4 * i) (nat_lt i used)
 
 abbrev pub zero_from40 : List ℕ → ℕ → Bool
 zero_from40 bs i = slice_index bs (40 + i) == 0

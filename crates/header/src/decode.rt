@@ -80,7 +80,7 @@ fn header(bytes: &[u8; 64]) -> Option<Header>
     rest_is_zero(bytes).then_some(header)
 }
 
-// The two readers above hand this on with more: a type for such an image would be made for them alone.
+// Both clauses go on into the contracts of the image's reader: a type for such an image would serve it alone.
 /// The header of an image as long as its header says.
 pub fn decode(image: &[u8]) -> Result<Header, Refusal>
     ensures refusal { refused_by result ≡ header_refusal image.now }

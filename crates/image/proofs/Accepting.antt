@@ -11,11 +11,11 @@ use Rattle.header.proofs.Rewritten.{Bytes, header_sound}
 use Rattle.brackets.proofs.Nesting.{paired_is_nested}
 use Rattle.image.specs.Images.{instruction_at, instructions, code_at, image_refusal, image_of}
 use Rattle.image.proofs.Sounding.{SoundCode, as_list}
-use Rattle.image.proofs.Answering.{header_good_lem, code_sound, image_rewritten, brackets_passed}
+use Rattle.image.proofs.Answering.{header_is_good, code_sound, image_rewritten, brackets_passed}
 
 module _ (bs : List ℕ) (h : Header) (is : h ≡ header_at bs) (none : None ≡ image_refusal bs) where
   pub sound_header : Bytes bs → SoundHeader h
-  sound_header small = subst SoundHeader (sym is) (header_sound bs small (header_good_lem bs (sym none)))
+  sound_header small = subst SoundHeader (sym is) (header_sound bs small (header_is_good bs (sym none)))
 
   module _ (before list : List Instruction) (filled : list ≡ instructions (drop 64 bs) h.count ++ drop h.count before) where
     pub code_is : take h.count list ≡ code_at bs

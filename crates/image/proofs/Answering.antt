@@ -52,8 +52,8 @@ module _ (bs : List ℕ) (none : image_refusal bs ≡ None) where
   fields_passed k h =
       none_failing BadField (fields_good (header_at bs) (drop 64 bs)) 0 (header_at bs).count (both (fields_refusal (header_at bs) (drop 64 bs)) _ rest_passed).0 k (omega arith) (omega arith)
 
-  pub header_good_lem : header_good bs ≡ true
-  header_good_lem = passed (header_good bs) BadHeader 0 (both (unless (header_good bs) BadHeader 0) _ (both (unless (leb 64 (length bs)) NoHeader 0) _ header_passed).1).0
+  pub header_is_good : header_good bs ≡ true
+  header_is_good = passed (header_good bs) BadHeader 0 (both (unless (header_good bs) BadHeader 0) _ (both (unless (leb 64 (length bs)) NoHeader 0) _ header_passed).1).0
 
 within_decoded : (l : Limits) (f : Fields) → admitted l f ≡ true → bound l.registers l.tables (decode f) ≡ true
 within_decoded l f e = sym (same_bounds l (decode f)) ∙ ap (admitted l) (encode_decode l f e) ∙ e
@@ -76,7 +76,7 @@ image_rewritten bs small size none =
     let body : length (drop 64 bs) ≡ 8 * (header_at bs).count = omega (arith, length-drop 64 bs) in
     let small_body : Bytes (drop 64 bs) = λ k. subst (λ (n : ℕ). n < 256) (sym (get_or-drop 64 bs k 0)) (small (64 + k)) in
     (λ t.
-    header_rewritten bs small (omega arith) (header_good_lem bs none) t
+    header_rewritten bs small (omega arith) (header_is_good bs none) t
     ++ code_rewritten (limits_of (header_at bs)) (drop 64 bs) (header_at bs).count small_body body (fields_passed bs none) t)
     ∙ take-append-drop 64 bs
 

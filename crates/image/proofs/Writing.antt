@@ -1,5 +1,5 @@
 -- What writing leaves, and how it is read.
-use Rattle.std.proofs.Common.{◌≡◌, ℕ, ◌+◌, ◌*◌, ◌^◌, ◌<◌, ◌≤◌, true, false, eqb, leb, List, [], ◌++◌, length, get_or, take, drop, is_some, Some, None, Ok, vec_items, Option, sym, refl, ap, ◌∙◌, subst, arith, length-append}
+use Rattle.std.proofs.Common.{◌≡◌, ℕ, ◌+◌, ◌*◌, ◌^◌, ◌<◌, ◌≤◌, true, eqb, leb, List, [], ◌++◌, length, get_or, take, drop, None, Ok, vec_items, sym, ap, ◌∙◌, subst, arith, length-append}
 use borrow.Rule.Slice.PartMut.{put_mid}
 use Rattle.std.proofs.lemmas.List.{take_at, drop_at}
 use Rattle.std.proofs.lemmas.Bool.{le-leb, eq-eqb, cond-false, le-ltb}
@@ -8,28 +8,24 @@ use Rattle.instructions.specs.declared.Instruction.TheVariants.{Again}
 use Rattle.program.specs.declared.header.Header.{Header}
 use Rattle.program.specs.declared.program.Program.{Program}
 use Rattle.program.specs.declared.refusal.Reason.TheVariants.{NoHeader, BadHeader, BadLength, BadField}
-use Rattle.program.specs.declared.refusal.Refusal.{Refusal}
 use Rattle.program.specs.Refusals.{unless, or_else}
 use Rattle.program.specs.Headers.{registers_of}
 use Rattle.program.specs.Pairing.{pairing}
 use Rattle.program.specs.Sound.{SoundHeader}
 use Rattle.program.proofs.Firsts.{failing_none}
+use Rattle.program.proofs.Refusals.{none}
 use Rattle.fields.specs.Rows.{admitted}
 use Rattle.fields.specs.Codec.{encode}
 use Rattle.fields.proofs.Trips.{same_bounds}
 use Rattle.header.specs.Layout.{header_at, header_good, header_bytes, header_refusal, pair_at}
 use Rattle.header.proofs.Parts.{length_joined, part_more}
 use Rattle.header.proofs.Written.{length_header}
-use Rattle.header.proofs.Reread.{header_reread, header_good_lem, count_at}
+use Rattle.header.proofs.Reread.{header_reread, header_is_good, count_at}
 use Rattle.image.specs.Images.{limits_of, instructions, code_at, fields_good, fields_refusal, image_refusal, instruction_bytes, code_bytes, image_of, image_length}
 use Rattle.program.specs.Programs.{code_of}
 use Rattle.image.specs.Writing.{write_answer, ReadAs}
 use Rattle.image.proofs.Sounding.{SoundCode, as_code}
 use Rattle.image.proofs.Trips.{length_instruction, bound_word, fields_reread, code_reread}
-
-none_of : (o : Option Refusal) → is_some o ≡ false → o ≡ None
-none_of None e = refl
-none_of (Some x) e = let z : ◌≡◌ {A = ℕ} 0 1 = cc in absurd (omega arith)
 
 -- a program that is sound, and its image
 module _ (h : Header) (code : List Instruction) (sound_h : SoundHeader h) (sound_c : SoundCode h code) where
@@ -53,7 +49,7 @@ module _ (h : Header) (code : List Instruction) (sound_h : SoundHeader h) (sound
   header_passes =
       let bs = image_of h code in
       let long : leb 64 (length bs) ≡ true = le-leb 64 (length bs) (omega (arith, length_image)) in
-      let good : header_good bs ≡ true = header_good_lem h (code_bytes code) sound_h in
+      let good : header_good bs ≡ true = header_is_good h (code_bytes code) sound_h in
       let size : eqb (length bs) (64 + 8 * pair_at bs 4) ≡ true = eq-eqb _ _ (omega (arith, length_image, count_at h (code_bytes code) sound_h)) in
       λ t. or_else (unless (long t) NoHeader 0) (or_else (unless (good t) BadHeader 0) (unless (size t) BadLength 0))
 
@@ -68,7 +64,7 @@ module _ (h : Header) (code : List Instruction) (sound_h : SoundHeader h) (sound
   pub image_passes : image_refusal (image_of h code) ≡ None
   image_passes =
       (λ t. or_else (header_passes t) (or_else (fields_refusal (header_is t) (body_is t)) (pairing [] 0 (code_is t))))
-      ∙ (λ t. or_else (fields_pass t) (none_of (pairing [] 0 code) sound_c.pairs t))
+      ∙ (λ t. or_else (fields_pass t) (none (pairing [] 0 code) sound_c.pairs t))
 
 -- a program keeps what it is made with
 header_of : (p : Program) → SoundHeader p.header

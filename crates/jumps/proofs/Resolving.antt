@@ -12,7 +12,7 @@ use Rattle.program.specs.declared.opening.Opening.TheVariants.{Then, Otherwise, 
 use Rattle.program.specs.Pairing.{pairing}
 use Rattle.machine.specs.Machine.{closing, other, after_else}
 use Rattle.program.proofs.Refusals.{no_some, opens}
-use Rattle.machine.proofs.Around.{closers, closers-is, around}
+use Rattle.machine.proofs.Around.{closers, closers_open, around}
 use Rattle.jumps.specs.declared.Closer.{Closer}
 use Rattle.jumps.specs.Jumps.{Jumps, closer, met, Noted}
 
@@ -27,20 +27,20 @@ Wants Again cs = length cs < 8
 
 wanted : (i : Instruction) (is : List Instruction) (cs : List Closer) (p : ℕ) (os : List Opening) → pairing os p (i ∷ is) ≡ None → length os ≤ 8 → length cs ≡ closers is → Wants i cs
 wanted (Do op) is cs p os h l e = tt
-wanted (If a) is cs p os h l e = let q = closers-is is (suc p) (Then p a ∷ os) (opens os p h).1 in omega arith
+wanted (If a) is cs p os h l e = let q = closers_open is (suc p) (Then p a ∷ os) (opens os p h).1 in omega arith
 wanted Else is cs p [] h l e = absurd (no_some h)
-wanted Else is cs p (Then q a ∷ os) h l e = let c = closers-is is (suc p) (Otherwise q a p ∷ os) h in omega arith
+wanted Else is cs p (Then q a ∷ os) h l e = let c = closers_open is (suc p) (Otherwise q a p ∷ os) h in omega arith
 wanted Else is cs p (Otherwise q a m ∷ os) h l e = absurd (no_some h)
 wanted Else is cs p (Loop q ∷ os) h l e = absurd (no_some h)
 wanted End is cs p [] h l e = absurd (no_some h)
-wanted End is cs p (Then q a ∷ os) h l e = let c = closers-is is (suc p) os h in omega arith
-wanted End is cs p (Otherwise q a m ∷ os) h l e = let c = closers-is is (suc p) os h in omega arith
+wanted End is cs p (Then q a ∷ os) h l e = let c = closers_open is (suc p) os h in omega arith
+wanted End is cs p (Otherwise q a m ∷ os) h l e = let c = closers_open is (suc p) os h in omega arith
 wanted End is cs p (Loop q ∷ os) h l e = absurd (no_some h)
-wanted (Repeat a k) is cs p os h l e = let q = closers-is is (suc p) (Loop p ∷ os) (opens os p h).1 in omega arith
+wanted (Repeat a k) is cs p os h l e = let q = closers_open is (suc p) (Loop p ∷ os) (opens os p h).1 in omega arith
 wanted Again is cs p [] h l e = absurd (no_some h)
 wanted Again is cs p (Then q a ∷ os) h l e = absurd (no_some h)
 wanted Again is cs p (Otherwise q a m ∷ os) h l e = absurd (no_some h)
-wanted Again is cs p (Loop q ∷ os) h l e = let c = closers-is is (suc p) os h in omega arith
+wanted Again is cs p (Loop q ∷ os) h l e = let c = closers_open is (suc p) os h in omega arith
 
 met_room : (c : Closer) (cs : List Closer) → length cs < 8 → met c cs ≡ c ∷ cs
 met_room c cs h = ap (λ b. cond b (c ∷ cs) cs) (lt-ltb (length cs) 8 h)

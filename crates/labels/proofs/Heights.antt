@@ -1,7 +1,7 @@
 -- Passes come to an end with every kind of label that has a bounded number of rises: a smallest solution exists.
 use Rattle.std.proofs.Common.{◌≡◌, ℕ, zero, suc, ◌+◌, ◌*◌, ◌<◌, ◌≤◌, Bool, true, false, cond, ◌&&◌, eqb, ltb, List, [], ◌∷◌, length, get_or, drop, sym, refl, ap, ◌∙◌, subst, ⊎_elim, suc-mul, arith}
 use mathlib.Core.Path.{fun_ext}
-use Rattle.std.proofs.lemmas.Bool.{cases_lt}
+use Rattle.std.proofs.lemmas.Bool.{cases_lt, and_parts, eqb-true, ltb-true}
 use Rattle.instructions.specs.declared.Op.{Op}
 use Rattle.instructions.specs.declared.Op.TheVariants.{Set, Pick, Load, Store}
 use Rattle.instructions.specs.declared.Instruction.{Instruction}
@@ -41,18 +41,11 @@ sum_most : (n c : ℕ) (f : ℕ → ℕ) → ((k : ℕ) → f k ≤ c) → sum n
 sum_most zero c f h = omega arith
 sum_most (suc n) c f h = let a = sum_most n c f h in let b = h n in let e = suc-mul n c in omega arith
 
-eqb_is : (p q : ℕ) → eqb p q ≡ true → p ≡ q
-eqb_is p q h = grind (arith)
-
 eqb_far : (r d : ℕ) → d < r → eqb r d ≡ false
 eqb_far r d h = grind (arith)
 
-and_left : (a b : Bool) → (a && b) ≡ true → a ≡ true
-and_left true b h = refl
-and_left false b h = h
-
-below : (d n : ℕ) (b : Bool) → (ltb d n && b) ≡ true → d < n
-below d n b h = let e = and_left (ltb d n) b h in grind (arith)
+pub below : (d n : ℕ) (b : Bool) → (ltb d n && b) ≡ true → d < n
+below d n b h = ltb-true d n (and_parts (ltb d n) b h).0
 
 module _ {L : Type 0} (K : LabelKind L) (laws : Lawful K) (registers places : ℕ) where
   -- labels lie at places below a bound, on registers below a bound
@@ -61,7 +54,7 @@ module _ {L : Type 0} (K : LabelKind L) (laws : Lawful K) (registers places : �
     high : (p r : ℕ) → registers ≤ r → S p r ≡ K.least
 
   raise_far : (S : ℕ → ℕ → L) (q : ℕ) (A : ℕ → L) → q < places → Bounded S → (p r : ℕ) → places ≤ p → (c : Bool) → eqb p q ≡ c → cond c (K.join (S p r) (A r)) (S p r) ≡ K.least
-  raise_far S q A h b p r g true e = let z = eqb_is p q e in absurd (omega arith)
+  raise_far S q A h b p r g true e = let z = eqb-true p q e in absurd (omega arith)
   raise_far S q A h b p r g false e = b.far p r g
 
   raise_high : (S : ℕ → ℕ → L) (A : ℕ → L) → Bounded S → (p r : ℕ) → registers ≤ r → A r ≡ K.least → (c : Bool) → cond c (K.join (S p r) (A r)) (S p r) ≡ K.least

@@ -1,5 +1,5 @@
 -- The numbers that are reckoned are the smallest sets.
-use Rattle.std.proofs.Common.{◌≡◌, ℕ, zero, suc, ◌+◌, ◌*◌, ◌^◌, ◌<◌, ◌≤◌, Bool, true, false, cond, not, ◌&&◌, ◌||◌, eqb, ltb, List, [], ◌∷◌, length, get_or, drop, set, replicate, sym, refl, ap, ◌∙◌, subst, arith, length-set}
+use Rattle.std.proofs.Common.{◌≡◌, ℕ, zero, suc, ◌+◌, ◌*◌, ◌^◌, ◌<◌, ◌≤◌, Bool, true, false, cond, not, ◌||◌, eqb, List, [], ◌∷◌, length, get_or, drop, set, replicate, sym, refl, ap, ◌∙◌, subst, arith, length-set}
 use lib.Bits.{bit_and, bit_or}
 use Rattle.std.proofs.lemmas.Nat.{or_lt, xor_lt, and_le_l, pow_below}
 use Rattle.std.proofs.lemmas.List.{length-replicate}
@@ -23,6 +23,7 @@ use Rattle.labels.proofs.Targets.{Targets, within}
 use Rattle.labels.proofs.Rows.{sets-raised, grew_raise, grew_none, grew_both}
 use Rattle.labels.proofs.Plain.{plain}
 use Rattle.labels.proofs.Solving.{rising, reached}
+use Rattle.labels.proofs.Heights.{below}
 use Rattle.labels.proofs.Passing.{unmarked-opens, ahead, rising_start}
 
 with_bits : (x d : ℕ) (c : Bool) → bits (number_put x d c) ≡ put secrecy (bits x) d c
@@ -85,17 +86,10 @@ with_small : (x d : ℕ) (c : Bool) → x < 65536 → d < 16 → number_put x d 
 with_small x d true h b = or_lt 16 x (2 ^ d) h (pow_below d 16 b)
 with_small x d false h b = xor_lt 16 x (bit_and x (2 ^ d)) h (let e = and_le_l x (2 ^ d) in omega arith)
 
-and_left : (a b : Bool) → (a && b) ≡ true → a ≡ true
-and_left true b h = refl
-and_left false b h = h
-
-below : (d : ℕ) (b : Bool) → (ltb d 16 && b) ≡ true → d < 16
-below d b h = let e = and_left (ltb d 16) b h in grind (arith)
-
 leaves_small : (used : ℕ) (tables : ℕ → Bool) (m : Bool) (o : Op) (x : ℕ) → bound_op 16 used o ≡ true → x < 65536 → number_leaves tables m o x < 65536
-leaves_small used tables m (Set d v) x b h = with_small x d _ h (below d _ b)
-leaves_small used tables m (Pick d a e) x b h = with_small x d _ h (below d _ b)
-leaves_small used tables m (Load d a e) x b h = with_small x d _ h (below d _ b)
+leaves_small used tables m (Set d v) x b h = with_small x d _ h (below d 16 _ b)
+leaves_small used tables m (Pick d a e) x b h = with_small x d _ h (below d 16 _ b)
+leaves_small used tables m (Load d a e) x b h = with_small x d _ h (below d 16 _ b)
 leaves_small used tables m (Store d a e) x b h = h
 
 module _ (tables : ℕ → Bool) where
@@ -173,11 +167,6 @@ room_zeros : (n : ℕ) → room (replicate n 0) ≤ 65535 * n
 room_zeros zero = omega arith
 room_zeros (suc n) = let e = room_zeros n in omega arith
 
-small_zeros : (n k : ℕ) → get_or (replicate n 0) k 0 < 65536
-small_zeros zero k = omega arith
-small_zeros (suc n) zero = omega arith
-small_zeros (suc n) (suc k) = small_zeros n k
-
 pub zeros : (n k : ℕ) → ◌≡◌ {A = ℕ} (get_or (replicate n 0) k 0) 0
 zeros zero k = refl
 zeros (suc n) zero = refl
@@ -185,7 +174,7 @@ zeros (suc n) (suc k) = zeros n k
 
 small_start : (x n : ℕ) → x < 65536 → Small (x ∷ replicate n 0)
 small_start x n h zero = h
-small_start x n h (suc k) = small_zeros n k
+small_start x n h (suc k) = let z = zeros n k in omega arith
 
 others : (x n k : ℕ) → 0 < k → ◌≡◌ {A = ℕ} (get_or (x ∷ replicate n 0) k 0) 0
 others x n zero h = absurd (omega arith)

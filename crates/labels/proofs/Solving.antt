@@ -2,6 +2,7 @@
 -- there is one smallest at most.
 use Rattle.std.proofs.Common.{◌≡◌, ℕ, zero, suc, ◌+◌, Bool, true, false, cond, eqb, List, [], ◌∷◌, drop, sym, refl, ap, ◌∙◌, subst, arith}
 use mathlib.Core.Path.{fun_ext}
+use Rattle.std.proofs.lemmas.Bool.{eqb-true}
 use Rattle.instructions.specs.declared.Value.{Value}
 use Rattle.instructions.specs.declared.Value.TheVariants.{Const, Move, Binary, Shift}
 use Rattle.instructions.specs.declared.Op.{Op}
@@ -19,9 +20,6 @@ use Rattle.labels.specs.Kinds.{LabelKind, Within, Lawful}
 use Rattle.labels.specs.declared.way.Way.{Way}
 use Rattle.labels.specs.Rules.{Each, else_ways, Sub, read_by, written, put, leaves, label_of, marked, mask_of, ways, Along, Keeps, Solves, Smallest}
 use Rattle.labels.specs.Passes.{opens, raised, passed, along, flow, sweep, Rising}
-
-eqb_is : (p q : ℕ) → eqb p q ≡ true → p ≡ q
-eqb_is p q h = grind (arith)
 
 eqb_self : (p : ℕ) → eqb p p ≡ true
 eqb_self p = grind (arith)
@@ -55,7 +53,7 @@ module _ {L : Type 0} (K : LabelKind L) (laws : Lawful K) where
   raise_up S q A p r = up (eqb p q) (S p r) (A r)
 
   at_case : (S Z : ℕ → ℕ → L) (q : ℕ) (A : ℕ → L) → Le S Z → Sub K A (Z q) → (p r : ℕ) (c : Bool) → eqb p q ≡ c → Within K (cond c (K.join (S p r) (A r)) (S p r)) (Z p r)
-  at_case S Z q A s a p r true e = joined K laws (S p r) (A r) (Z p r) (s p r) (subst (λ y. Within K (A r) (Z y r)) (sym (eqb_is p q e)) (a r))
+  at_case S Z q A s a p r true e = joined K laws (S p r) (A r) (Z p r) (s p r) (subst (λ y. Within K (A r) (Z y r)) (sym (eqb-true p q e)) (a r))
   at_case S Z q A s a p r false e = s p r
 
   raise_below : (S Z : ℕ → ℕ → L) (q : ℕ) (A : ℕ → L) → Le S Z → Sub K A (Z q) → Le (raised K S q A) Z

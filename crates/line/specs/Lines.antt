@@ -2,18 +2,13 @@
 use Rattle.std.specs.Prelude.{◌≡◌, ℕ, ◌-◌, List, map, length, Some, None, Option, refl}
 use Rattle.std.proofs.Common.{sym, ap, ◌∙◌}
 use Rattle.std.proofs.lemmas.List.{length-map, map-append}
-use Rattle.std.proofs.lemmas.Option.{slice_get-map}
-use Rattle.std.specs.List.{slice_get}
-use Rattle.std.specs.Option.{option_map}
 use Rattle.program.specs.declared.refusal.Refusal.{Refusal}
+use Rattle.program.specs.Hold.{hold}
 use Rattle.memory.specs.declared.Access.{Access}
-use Rattle.memory.specs.Description.{Mark, Description, held, free, marked}
+use Rattle.memory.specs.Description.{Mark, Description, free, marked}
 use Rattle.memory.specs.Accesses.{denial, denied, left}
 use Rattle.memory.specs.Laws.{Lawful}
 use Rattle.line.specs.Line.{line_of, line_rules, line_over}
-
-pub nth_map : {X Y : Type 0} (f : X → Y) (xs : List X) (j : ℕ) → slice_get (map f xs) j ≡ option_map f (slice_get xs j)
-nth_map f xs j = slice_get-map f xs j
 
 module _ (e : ℕ) (d : Description) where
   pub line_free : free d ≡ free (line_over e d)
@@ -45,7 +40,7 @@ module _ (e : ℕ) (d : Description) where
   pub line_lawful : Lawful d → Lawful (line_over e d)
   line_lawful laws = record {
     limited = laws.limited;
-    priced = λ k base len off w. ap held (length-map (d.rules.shows k base len off) (line_of e)) ∙ laws.priced k base len off (record { below = w.below; fits = w.fits });
+    priced = λ k base len off w. ap hold (length-map (d.rules.shows k base len off) (line_of e)) ∙ laws.priced k base len off (record { below = w.below; fits = w.fits });
     shown = λ k base len off w. laws.shown k base len off (record { below = w.below; fits = w.fits });
     alike = λ h k base len off other v w. ap (map (line_of e)) (laws.alike h k base len off other (record { below = v.below; fits = v.fits }) (record { below = w.below; fits = w.fits }));
   }

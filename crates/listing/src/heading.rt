@@ -1,6 +1,6 @@
 // What the header says, in lines.
 ghost use Rattle.std.specs.Prelude.{◌≡◌, Some};
-ghost use Rattle.listing.specs.Wording.{label_text, table_text};
+ghost use Rattle.listing.specs.Wording.{label_text, table_text, sizes_text};
 
 use labels::sets::has;
 use program::header::{Header, Table};
@@ -13,15 +13,16 @@ pub struct Sizes {
 }
 
 impl fmt::Display for Sizes {
+    ghost output = { λ s. Some (sizes_text s.header) };
+
     fn fmt<W: fmt::Write>(&self, f: &mut fmt::Formatter<W>) -> fmt::Result {
-        let header = self.header;
+        let kind = self.header.kind;
+        let count = self.header.count;
+        let used = self.header.used;
+        let cells = self.header.cells();
         write!(
             f,
-            "{}: instructions {}, tables {}, cells {}",
-            header.kind,
-            header.count,
-            header.used,
-            header.cells()
+            "{kind}: instructions {count}, tables {used}, cells {cells}"
         )
     }
 }

@@ -3,7 +3,7 @@
 
 pub mod beside;
 pub mod heading;
-pub mod label;
 pub mod line;
 pub mod listing;
+pub mod secret_note;
 pub mod written;

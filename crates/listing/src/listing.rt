@@ -1,7 +1,7 @@
 // A whole program, line by line.
 use crate::heading::{RegisterSet, Sizes, TableLine};
-use crate::label::SecretNote;
 use crate::line::Line;
+use crate::secret_note::SecretNote;
 use instructions::Instruction;
 use labels::sets::has;
 use outline::depth;

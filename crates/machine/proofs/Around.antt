@@ -1,15 +1,11 @@
 -- What is open around each place of a program, seen from the instructions that are left.
-use Rattle.std.proofs.Common.{◌≡◌, ℕ, zero, suc, ◌-◌, ◌≤◌, false, List, [], ◌∷◌, length, drop, is_some, Some, None, Option, refl, ap, arith}
+use Rattle.std.proofs.Common.{◌≡◌, ℕ, zero, suc, ◌-◌, ◌≤◌, List, [], ◌∷◌, length, drop, None, refl, ap, arith}
 use Rattle.instructions.specs.declared.Instruction.{Instruction}
 use Rattle.instructions.specs.declared.Instruction.TheVariants.{Do, If, Else, End, Repeat, Again}
 use Rattle.program.specs.declared.opening.Opening.{Opening}
 use Rattle.program.specs.declared.opening.Opening.TheVariants.{Then, Otherwise, Loop}
 use Rattle.program.specs.Pairing.{pairing}
 use Rattle.program.proofs.Refusals.{no_some, opens}
-
-pub none : {X : Type 0} (x : Option X) → is_some x ≡ false → x ≡ None
-none None e = refl
-none (Some x) e = let z : ◌≡◌ {A = ℕ} 0 1 = cc in absurd (omega arith)
 
 -- how many brackets these instructions close that they do not open
 abbrev pub closers : List Instruction → ℕ
@@ -22,24 +18,24 @@ closers (Repeat a k ∷ is) = closers is - 1
 closers (Again ∷ is) = suc (closers is)
 
 -- as many as are open
-pub closers-is : (is : List Instruction) (p : ℕ) (os : List Opening) → pairing os p is ≡ None → closers is ≡ length os
-closers-is [] p [] h = refl
-closers-is [] p (o ∷ os) h = absurd (no_some h)
-closers-is (Do op ∷ is) p os h = closers-is is (suc p) os h
-closers-is (If a ∷ is) p os h = let e = closers-is is (suc p) (Then p a ∷ os) (opens os p h).1 in omega arith
-closers-is (Else ∷ is) p [] h = absurd (no_some h)
-closers-is (Else ∷ is) p (Then q a ∷ os) h = closers-is is (suc p) (Otherwise q a p ∷ os) h
-closers-is (Else ∷ is) p (Otherwise q a m ∷ os) h = absurd (no_some h)
-closers-is (Else ∷ is) p (Loop q ∷ os) h = absurd (no_some h)
-closers-is (End ∷ is) p [] h = absurd (no_some h)
-closers-is (End ∷ is) p (Then q a ∷ os) h = ap suc (closers-is is (suc p) os h)
-closers-is (End ∷ is) p (Otherwise q a m ∷ os) h = ap suc (closers-is is (suc p) os h)
-closers-is (End ∷ is) p (Loop q ∷ os) h = absurd (no_some h)
-closers-is (Repeat a k ∷ is) p os h = let e = closers-is is (suc p) (Loop p ∷ os) (opens os p h).1 in omega arith
-closers-is (Again ∷ is) p [] h = absurd (no_some h)
-closers-is (Again ∷ is) p (Then q a ∷ os) h = absurd (no_some h)
-closers-is (Again ∷ is) p (Otherwise q a m ∷ os) h = absurd (no_some h)
-closers-is (Again ∷ is) p (Loop q ∷ os) h = ap suc (closers-is is (suc p) os h)
+pub closers_open : (is : List Instruction) (p : ℕ) (os : List Opening) → pairing os p is ≡ None → closers is ≡ length os
+closers_open [] p [] h = refl
+closers_open [] p (o ∷ os) h = absurd (no_some h)
+closers_open (Do op ∷ is) p os h = closers_open is (suc p) os h
+closers_open (If a ∷ is) p os h = let e = closers_open is (suc p) (Then p a ∷ os) (opens os p h).1 in omega arith
+closers_open (Else ∷ is) p [] h = absurd (no_some h)
+closers_open (Else ∷ is) p (Then q a ∷ os) h = closers_open is (suc p) (Otherwise q a p ∷ os) h
+closers_open (Else ∷ is) p (Otherwise q a m ∷ os) h = absurd (no_some h)
+closers_open (Else ∷ is) p (Loop q ∷ os) h = absurd (no_some h)
+closers_open (End ∷ is) p [] h = absurd (no_some h)
+closers_open (End ∷ is) p (Then q a ∷ os) h = ap suc (closers_open is (suc p) os h)
+closers_open (End ∷ is) p (Otherwise q a m ∷ os) h = ap suc (closers_open is (suc p) os h)
+closers_open (End ∷ is) p (Loop q ∷ os) h = absurd (no_some h)
+closers_open (Repeat a k ∷ is) p os h = let e = closers_open is (suc p) (Loop p ∷ os) (opens os p h).1 in omega arith
+closers_open (Again ∷ is) p [] h = absurd (no_some h)
+closers_open (Again ∷ is) p (Then q a ∷ os) h = absurd (no_some h)
+closers_open (Again ∷ is) p (Otherwise q a m ∷ os) h = absurd (no_some h)
+closers_open (Again ∷ is) p (Loop q ∷ os) h = ap suc (closers_open is (suc p) os h)
 
 -- what is open before these instructions
 pub record Around (is : List Instruction) : Type 0 where

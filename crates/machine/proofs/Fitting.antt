@@ -55,3 +55,18 @@ module _ (r t : ℕ) (few : r ≤ 32) where
       let q = and_parts (leb 1 k) (leb k 1024) p.1 in
       (below a p.0, leb-true k 1024 q.1)
   fits Again e = tt
+
+op_eight : (t : ℕ) (o : Op) → t ≤ 8 → FitOp 32 t o → FitOp 32 8 o
+op_eight t (Set d v) h f = f
+op_eight t (Pick d a b) h f = f
+op_eight t (Load d a b) h f = (f.0, f.1, omega arith)
+op_eight t (Store d a b) h f = (f.0, f.1, omega arith)
+
+-- a table that the header has is one of eight
+pub fits_eight : (t : ℕ) (i : Instruction) → t ≤ 8 → Fit 32 t i → Fit 32 8 i
+fits_eight t (Do o) h f = op_eight t o h f
+fits_eight t (If a) h f = f
+fits_eight t Else h f = f
+fits_eight t End h f = f
+fits_eight t (Repeat a k) h f = f
+fits_eight t Again h f = f

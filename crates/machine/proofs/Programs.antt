@@ -1,16 +1,10 @@
 -- What a program's invariant says of its instructions.
 use Rattle.std.proofs.Common.{◌≡◌, ◌≤◌, [], length, None, vec_items, arith, length-take}
-use Rattle.program.specs.declared.header.Kind.{Kind}
-use Rattle.program.specs.declared.header.Kind.TheVariants.{Source, Converted}
 use Rattle.program.specs.declared.program.Program.{Program}
-use Rattle.program.specs.Headers.{longest}
 use Rattle.program.specs.Pairing.{pairing}
 use Rattle.program.specs.Programs.{code_of}
-use Rattle.machine.proofs.Around.{none}
-
-longest_short : (k : Kind) → longest k ≤ 3000
-longest_short Source = omega arith
-longest_short Converted = omega arith
+use Rattle.program.proofs.Refusals.{none}
+use Rattle.program.proofs.Headers.{longest_short}
 
 module _ (s : Program) where
   pub code_long : length (code_of s) ≡ s.header.count

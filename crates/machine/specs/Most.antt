@@ -1,5 +1,5 @@
 -- The most that a run can count: a sum over nested blocks.
-use Rattle.std.specs.Prelude.{ℕ, ◌+◌, ◌*◌, min, max, List, [], ◌∷◌}
+use Rattle.std.specs.Prelude.{ℕ, ◌+◌, ◌*◌, max, List, [], ◌∷◌}
 use Rattle.instructions.specs.declared.Op.{Op}
 use Rattle.instructions.specs.declared.Op.TheVariants.{Set, Pick, Load, Store}
 use Rattle.program.specs.Blocks.{Block, done, one, if_then, if_else, loop}
@@ -14,10 +14,6 @@ pub record Price : Type 0 where
 -- steps alone are counted
 abbrev pub each_step : Price
 each_step = record { step = 1; read = λ t. 0; write = λ t. 0 }
-
--- held at 1,000,001 when larger
-abbrev pub hold : ℕ → ℕ
-hold n = min n 1000001
 
 module _ (w : Price) where
   -- what a trace counts

@@ -4,14 +4,14 @@ use Rattle.memory.specs.Description.{Description}
 use Rattle.leaf.specs.Leaves.{leaf}
 use Rattle.flat.specs.Flat.{flat}
 use Rattle.banked.specs.Banks.{row_of}
-use Rattle.makes.specs.declared.make.Kind.{Kind}
-use Rattle.makes.specs.declared.make.Kind.TheVariants.{Flat, Banked}
+use Rattle.makes.specs.declared.make.LeafKind.{LeafKind}
+use Rattle.makes.specs.declared.make.LeafKind.TheVariants.{Flat, Banked}
 
 -- so many cells, with zeros behind those that are given
 abbrev pub filled : ℕ → List ℕ → List ℕ
 filled size cells = take size cells ++ replicate (size - length cells) 0
 
 -- with so many cells, a list for the marks of this length, and these cells given
-abbrev pub begins : Kind → ℕ → ℕ → List ℕ → Description
+abbrev pub begins : LeafKind → ℕ → ℕ → List ℕ → Description
 begins Flat size list cells = flat (filled size cells) (replicate list 0) 0
 begins Banked size list cells = leaf row_of (replicate 1024 0) (replicate list 0) 0

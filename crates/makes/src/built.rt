@@ -4,7 +4,7 @@ ghost use Rattle.layered.specs.Leaves.{leaf_model};
 ghost use Rattle.layered.specs.Piles.{pile_model, piled};
 ghost use Rattle.makes.specs.Makes.{begins, filled};
 
-use crate::make::{Kind, Make};
+use crate::make::{LeafKind, Make};
 use banked::Banked;
 use flat::Flat;
 use layered::leaves::{Leaf, LeafCells};
@@ -33,10 +33,10 @@ fn leaf(heap: Global, make: Make, cells: Vec<u32>) -> Result<Leaf, AllocError>
     ensures { IfOk result (λ l. leaf_model l ≡ begins make.kind make.size make.list cells.items) }
 {
     let cells = match make.kind {
-        Kind::Flat => LeafCells::Flat(Flat {
+        LeafKind::Flat => LeafCells::Flat(Flat {
             cells: fill(cells, make.size)?,
         }),
-        Kind::Banked => LeafCells::Banked(Banked::new()),
+        LeafKind::Banked => LeafCells::Banked(Banked::new()),
     };
     Ok(Leaf::new(cells, vec![in heap; 0; make.list]?))
 }

@@ -5,7 +5,7 @@ use layered::pile::Layers;
 
 /// The make of a leaf.
 #[derive(Clone, Copy)]
-pub enum Kind {
+pub enum LeafKind {
     Flat,
     Banked,
 }
@@ -13,9 +13,10 @@ pub enum Kind {
 /// The longest list that a make may ask for.
 pub const MOST: usize = 1_000_000;
 
+/// A pile that is not made yet.
 #[derive(Clone, Copy)]
 pub struct Make {
-    pub kind: Kind,
+    pub kind: LeafKind,
     /// The number of cells of a flat memory.
     pub size: usize,
     /// The length of the list for the marks.

@@ -5,7 +5,7 @@ ghost use Rattle.makes.specs.Begun.{Begun};
 ghost use Rattle.makes.specs.Wording.{unnamed_text};
 
 use crate::built;
-use crate::make::{Kind, MOST, Make};
+use crate::make::{LeafKind, MOST, Make};
 use crate::words::{WordsError, words};
 use layered::chosen::Chosen;
 use layered::pile::{Layers, Pile};
@@ -76,8 +76,8 @@ fn leaf(name: &str, layers: Layers) -> Option<Make> {
     let (kind, lengths) = name.split_once(':')?;
     let (size, list) = lengths.split_once(':')?;
     let kind = match (kind, size) {
-        ("flat", _) => Kind::Flat,
-        ("banked", "1024") => Kind::Banked,
+        ("flat", _) => LeafKind::Flat,
+        ("banked", "1024") => LeafKind::Banked,
         _ => return None,
     };
     Some(Make {
@@ -103,8 +103,8 @@ impl FromStr for Make {
 // Whether a memory of this make may begin with so many words.
 fn takes(make: Make, words: usize) -> bool {
     match make.kind {
-        Kind::Flat => words <= make.size,
-        Kind::Banked => words == 0,
+        LeafKind::Flat => words <= make.size,
+        LeafKind::Banked => words == 0,
     }
 }
 

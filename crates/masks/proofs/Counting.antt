@@ -11,6 +11,7 @@ use Rattle.program.specs.declared.refusal.Reason.{Reason}
 use Rattle.program.specs.declared.refusal.Refusal.{Refusal}
 use Rattle.program.specs.Refusals.{unless}
 use Rattle.program.specs.Pairing.{wrong}
+use Rattle.program.proofs.Refusals.{no_some}
 use Rattle.brackets.specs.Labelled.{mark, marked_else, marked_end, marked_again, unmarked, closed_by_end, closed_by_again, closed}
 use Rattle.brackets.proofs.Unmarking.{as_long}
 use Rattle.labels.specs.Kinds.{secrecy}
@@ -86,30 +87,27 @@ module _ (A : ℕ → Bool) where
       let g = more_byte (labelled secrecy A i) (secrets_of ks) in
       omega arith
 
-no_some : {X : Type 0} {x : X} → None ≡ Some x → ⊥
-no_some e = let z : ◌≡◌ {A = ℕ} 0 1 = cc in omega arith
-
 module _ (r : Refusal) where
   full : (ks : List (Marked Bool)) (why : Reason) (p : ℕ) → unless (ltb (length (unmarked ks)) 8) why p ≡ Some r → suc (length ks) ≤ 8 → ⊥
   full ks why p e h =
       let n = as_long ks in
       let t : ltb (length (unmarked ks)) 8 ≡ true = lt-ltb (length (unmarked ks)) 8 (omega arith) in
-      no_some (ap (λ b. unless b why p) (sym t) ∙ e)
+      no_some (sym (ap (λ b. unless b why p) (sym t) ∙ e))
 
   else_stays : (o : Opening) (l : Bool) (p : ℕ) (ks : List (Marked Bool)) → wrong (o ∷ unmarked ks) p Else ≡ Some r → marked_else o l p ks ≡ mark o l ∷ ks
-  else_stays (Then q a) l p ks e = absurd (no_some e)
+  else_stays (Then q a) l p ks e = absurd (no_some (sym e))
   else_stays (Otherwise q a m) l p ks e = refl
   else_stays (Loop q) l p ks e = refl
 
   end_stays : (o : Opening) (l : Bool) (p : ℕ) (ks : List (Marked Bool)) → wrong (o ∷ unmarked ks) p End ≡ Some r → marked_end o l ks ≡ mark o l ∷ ks
-  end_stays (Then q a) l p ks e = absurd (no_some e)
-  end_stays (Otherwise q a m) l p ks e = absurd (no_some e)
+  end_stays (Then q a) l p ks e = absurd (no_some (sym e))
+  end_stays (Otherwise q a m) l p ks e = absurd (no_some (sym e))
   end_stays (Loop q) l p ks e = refl
 
   again_stays : (o : Opening) (l : Bool) (p : ℕ) (ks : List (Marked Bool)) → wrong (o ∷ unmarked ks) p Again ≡ Some r → marked_again o l ks ≡ mark o l ∷ ks
   again_stays (Then q a) l p ks e = refl
   again_stays (Otherwise q a m) l p ks e = refl
-  again_stays (Loop q) l p ks e = absurd (no_some e)
+  again_stays (Loop q) l p ks e = absurd (no_some (sym e))
 
   -- an instruction that is refused, but not for want of room, leaves open what was open
   pub stays : (A : ℕ → Bool) (ks : List (Marked Bool)) (p : ℕ) (i : Instruction) → wrong (unmarked ks) p i ≡ Some r → length (opens secrecy A ks p i) ≤ 8 → opens secrecy A ks p i ≡ ks

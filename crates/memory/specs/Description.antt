@@ -1,5 +1,5 @@
 -- What a memory is to its user.
-use Rattle.std.specs.Prelude.{ℕ, ◌-◌, min, Bool, List, [], ◌++◌, length}
+use Rattle.std.specs.Prelude.{ℕ, ◌-◌, Bool, List, [], ◌++◌, length}
 use Rattle.memory.specs.declared.Access.{Access}
 
 -- what an observer sees of an access: a row of these
@@ -25,10 +25,6 @@ pub record Description : Type 0 where
   -- the marks shown since the list was last empty, in order
   pub seen : List Mark
   pub rules : Rules
-
--- a number held at 1,000,001 when larger
-abbrev pub held : ℕ → ℕ
-held n = min n 1000001
 
 -- how many marks there is room for
 abbrev pub free : Description → ℕ

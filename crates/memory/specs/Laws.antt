@@ -1,7 +1,8 @@
 -- What every memory keeps.
 use Rattle.std.specs.Prelude.{◌≡◌, ℕ, ◌+◌, ◌<◌, ◌≤◌, true, length}
 use Rattle.memory.specs.declared.Access.{Access}
-use Rattle.memory.specs.Description.{Description, held}
+use Rattle.program.specs.Hold.{hold}
+use Rattle.memory.specs.Description.{Description}
 
 -- an offset below the length of a table within the cells
 pub record Within (d : Description) (base len off : ℕ) : Type 0 where
@@ -13,7 +14,7 @@ pub record Within (d : Description) (base len off : ℕ) : Type 0 where
 -- table show the same.
 pub record Lawful (d : Description) : Type 0 where
   pub limited : d.rules.limit ≤ 1000000
-  pub priced : (k : Access) (base len off : ℕ) → Within d base len off → held (length (d.rules.shows k base len off)) ≡ d.rules.cost k len
+  pub priced : (k : Access) (base len off : ℕ) → Within d base len off → hold (length (d.rules.shows k base len off)) ≡ d.rules.cost k len
   pub shown : (k : Access) (base len off : ℕ) → Within d base len off → 1 ≤ d.rules.cost k len
   pub alike : d.rules.hides ≡ true → (k : Access) (base len off other : ℕ) → Within d base len off → Within d base len other → d.rules.shows k base len off ≡ d.rules.shows k base len other
 

@@ -11,8 +11,8 @@ use Rattle.memory.specs.Accesses.{denial, denied, left}
 use Rattle.memory.specs.Laws.{Lawful}
 use Rattle.memory.proofs.Accepted.{accepted_within}
 use Rattle.memory.specs.declared.window.Window.{Window}
-use Rattle.piles.specs.declared.settings.Operation.{Operation}
-use Rattle.piles.specs.declared.settings.Operation.TheVariants.{Read as ReadAt, Write as WriteAt, Clear}
+use Rattle.piles.specs.declared.operations.Operation.{Operation}
+use Rattle.piles.specs.declared.operations.Operation.TheVariants.{Read as ReadAt, Write as WriteAt, Clear}
 use Rattle.piles.specs.Operations.{leaves}
 use Rattle.piles.specs.Pairs.{SameButCells, Touch, Beside, touched}
 

@@ -4,8 +4,8 @@ use Rattle.memory.specs.Description.{Description}
 use Rattle.memory.specs.declared.Access.{Access}
 use Rattle.memory.specs.declared.Access.TheVariants.{Read, Write}
 use Rattle.memory.specs.declared.window.Window.{Window}
-use Rattle.piles.specs.declared.settings.Operation.{Operation}
-use Rattle.piles.specs.declared.settings.Operation.TheVariants.{Read as ReadAt, Write as WriteAt, Clear}
+use Rattle.piles.specs.declared.operations.Operation.{Operation}
+use Rattle.piles.specs.declared.operations.Operation.TheVariants.{Read as ReadAt, Write as WriteAt, Clear}
 
 -- one make and size, and the same seen; what the cells hold may differ
 pub record SameButCells (one other : Description) : Type 0 where

@@ -2,7 +2,7 @@
 #![tactic(auto)]
 
 pub mod built;
+pub mod operations;
 pub mod pairs;
-pub mod settings;
 #[cfg(test)]
 mod tests;

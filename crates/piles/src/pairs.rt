@@ -3,7 +3,7 @@ ghost use Rattle.std.specs.Prelude.{◌≡◌, true};
 ghost use Rattle.piles.specs.Operations.{leaves};
 ghost use Rattle.piles.specs.Pairs.{SameButCells, touched, Beside};
 
-use crate::settings::{Operation, perform};
+use crate::operations::{Operation, perform};
 use memory::Memory;
 
 /// Does the first operation on one memory, and the second on the other. What the two have seen is the

@@ -34,5 +34,5 @@ pub record Passable (code : List Instruction) : Type 0 where
   pub few : (p : ℕ) → length (around code p) ≤ 8
 
 -- from and to places below n
-abbrev pub Within : ℕ → Way → Type 0
-Within n w = (w.from < n) × (w.to < n)
+abbrev pub Below : ℕ → Way → Type 0
+Below n w = (w.from < n) × (w.to < n)

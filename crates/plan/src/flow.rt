@@ -5,7 +5,7 @@ ghost use Rattle.program.specs.Bounds.{bound_value, bound_op, bound};
 ghost use Rattle.labels.specs.Kinds.{secrecy};
 ghost use Rattle.labels.specs.Rules.{Each, read_by, written, leaves};
 ghost use Rattle.labels.specs.Passes.{Ahead, raised, passed, along, flow};
-ghost use Rattle.plan.specs.Planned.{Within};
+ghost use Rattle.plan.specs.Planned.{Below};
 ghost use Rattle.labels.specs.Sets.{bits, sets, secret_tables, Grew};
 
 use crate::ways::ways;
@@ -92,7 +92,7 @@ fn carry(list: &mut [u16], way: Way) -> bool
 
 // Along ways, one after another.
 fn along(list: &mut [u16], ways: &[Way]) -> bool
-    requires { Each (Within (length list.old)) ways.now }
+    requires { Each (Below (length list.old)) ways.now }
     ensures sets { sets list.new ≡ along secrecy ways.now (sets list.old) }
     ensures grew { Grew result list.old list.new }
 {

@@ -3,7 +3,7 @@ ghost use Rattle.std.specs.Prelude.{◌≡◌, ℕ, ◌+◌, ◌^◌, ◌<◌, �
 ghost use Rattle.labels.specs.Kinds.{secrecy};
 ghost use Rattle.labels.specs.Rules.{Each, way, ways};
 ghost use Rattle.labels.specs.Passes.{Ahead};
-ghost use Rattle.plan.specs.Planned.{Within};
+ghost use Rattle.plan.specs.Planned.{Below};
 
 use arrayvec::ArrayVec;
 use instructions::Instruction;
@@ -28,7 +28,7 @@ fn listed(ways: &[Way]) -> ArrayVec<Way, 3>
 pub(crate) fn ways(masks: &Masks, instruction: Instruction, place: usize) -> ArrayVec<Way, 3>
     requires { (Ahead place masks.now.openings) × (place + 1 < 2 ^ 64) }
     ensures ways { result.items ≡ ways secrecy masks.now.openings place instruction }
-    ensures within { (n : ℕ) → place + 1 < n → Each (Within n) result.items }
+    ensures within { (n : ℕ) → place + 1 < n → Each (Below n) result.items }
 {
     let onward = way(place, place + 1);
     if let Instruction::If { .. } | Instruction::Repeat { .. } = instruction {

@@ -1,15 +1,13 @@
 -- The openings around a place: how they go on, where they lie, and how many there are.
-use Rattle.std.proofs.Common.{◌≡◌, ℕ, zero, suc, ◌+◌, ◌<◌, ◌≤◌, Bool, true, false, ltb, List, [], ◌∷◌, length, get_or, drop, is_some, Some, None, Option, refl, ap, ◌∙◌, subst, arith}
+use Rattle.std.proofs.Common.{◌≡◌, ℕ, zero, suc, ◌+◌, ◌<◌, ◌≤◌, false, ltb, List, [], ◌∷◌, length, get_or, drop, is_some, None, refl, ap, ◌∙◌, subst, arith}
 use Rattle.std.proofs.lemmas.Bool.{ltb-true}
 use Rattle.instructions.specs.declared.Instruction.{Instruction}
 use Rattle.instructions.specs.declared.Instruction.TheVariants.{Do, If, Else, End, Repeat, Again}
 use Rattle.program.specs.declared.opening.Opening.{Opening}
 use Rattle.program.specs.declared.opening.Opening.TheVariants.{Then, Otherwise, Loop}
-use Rattle.program.specs.declared.refusal.Reason.{Reason}
-use Rattle.program.specs.declared.refusal.Refusal.{Refusal}
-use Rattle.program.specs.Refusals.{unless, or_else}
 use Rattle.program.specs.Pairing.{pairing, wrong}
 use Rattle.program.specs.Openings.{past, open_after, around, Before}
+use Rattle.program.proofs.Refusals.{none, both, passed}
 
 -- the instructions after place p
 pub drop_next : (code : List Instruction) (p : ℕ) (i : Instruction) (is : List Instruction) → drop p code ≡ i ∷ is → drop (suc p) code ≡ is
@@ -88,14 +86,6 @@ pub before_around : (code : List Instruction) (p : ℕ) → AllBefore p (around 
 unfolding around
 before_around code p = let z : 0 + p ≡ p = omega arith in subst (λ m. AllBefore m (open_after [] 0 code p)) z (before_after [] 0 code p tt)
 
-both_none : (x y : Option Refusal) → is_some (or_else x y) ≡ false → (is_some x ≡ false) × (is_some y ≡ false)
-both_none None y e = (refl, e)
-both_none (Some r) y e = let z : ◌≡◌ {A = ℕ} 0 1 = cc in absurd (omega arith)
-
-room_left : (good : Bool) (why : Reason) (p : ℕ) → is_some (unless good why p) ≡ false → good ≡ true
-room_left true why p e = refl
-room_left false why p e = let z : ◌≡◌ {A = ℕ} 0 1 = cc in absurd (omega arith)
-
 few_else : (p : ℕ) (os : List Opening) → length os ≤ 8 → length (past p Else os) ≤ 8
 few_else p [] h = h
 few_else p (Then q a ∷ os) h = h
@@ -114,22 +104,22 @@ few_again p (Then q a ∷ os) h = h
 few_again p (Otherwise q a m ∷ os) h = h
 few_again p (Loop q ∷ os) h = omega arith
 
-few_past : (p : ℕ) (i : Instruction) (os : List Opening) → length os ≤ 8 → is_some (wrong os p i) ≡ false → length (past p i os) ≤ 8
+few_past : (p : ℕ) (i : Instruction) (os : List Opening) → length os ≤ 8 → wrong os p i ≡ None → length (past p i os) ≤ 8
 few_past p (Do op) os h e = h
-few_past p (If a) os h e = let r = ltb-true (length os) 8 (room_left (ltb (length os) 8) _ p e) in omega arith
+few_past p (If a) os h e = let r = ltb-true (length os) 8 (passed (ltb (length os) 8) _ p e) in omega arith
 few_past p Else os h e = few_else p os h
 few_past p End os h e = few_end p os h
-few_past p (Repeat a k) os h e = let r = ltb-true (length os) 8 (room_left (ltb (length os) 8) _ p e) in omega arith
+few_past p (Repeat a k) os h e = let r = ltb-true (length os) 8 (passed (ltb (length os) 8) _ p e) in omega arith
 few_past p Again os h e = few_again p os h
 
-few_after : (os : List Opening) (n : ℕ) (l : List Instruction) (k : ℕ) → length os ≤ 8 → is_some (pairing os n l) ≡ false → length (open_after os n l k) ≤ 8
+few_after : (os : List Opening) (n : ℕ) (l : List Instruction) (k : ℕ) → length os ≤ 8 → pairing os n l ≡ None → length (open_after os n l k) ≤ 8
 few_after os n l zero h e = h
 few_after os n [] (suc k) h e = h
 few_after os n (i ∷ l) (suc k) h e =
-    let b = both_none (wrong os n i) (pairing (past n i os) (suc n) l) e in
+    let b = both (wrong os n i) (pairing (past n i os) (suc n) l) e in
     few_after (past n i os) (suc n) l k (few_past n i os h b.0) b.1
 
 -- where brackets pair, at most eight openings are open around any place
 pub few_around : (code : List Instruction) → is_some (pairing [] 0 code) ≡ false → (p : ℕ) → length (around code p) ≤ 8
 unfolding around
-few_around code e p = few_after [] 0 code p (omega arith) e
+few_around code e p = few_after [] 0 code p (omega arith) (none (pairing [] 0 code) e)

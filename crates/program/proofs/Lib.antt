@@ -1,3 +1,4 @@
 pub mod Firsts
 pub mod Around
 pub mod Refusals
+pub mod Headers

@@ -1,5 +1,5 @@
 -- Tests that do not refuse.
-use Rattle.std.proofs.Common.{◌≡◌, ℕ, ◌<◌, Bool, true, false, ltb, List, length, Some, None, Option, refl, arith}
+use Rattle.std.proofs.Common.{◌≡◌, ℕ, ◌<◌, Bool, true, false, ltb, List, length, is_some, Some, None, Option, refl, arith}
 use Rattle.std.proofs.lemmas.Bool.{ltb-true}
 use Rattle.program.specs.declared.opening.Opening.{Opening}
 use Rattle.program.specs.declared.refusal.Reason.{Reason}
@@ -9,6 +9,10 @@ use Rattle.program.specs.Refusals.{unless, or_else}
 
 pub no_some : {X : Type 0} {x : X} → Some x ≡ None → ⊥
 no_some e = let z : ◌≡◌ {A = ℕ} 0 1 = cc in omega arith
+
+pub none : {X : Type 0} (x : Option X) → is_some x ≡ false → x ≡ None
+none None e = refl
+none (Some x) e = let z : ◌≡◌ {A = ℕ} 0 1 = cc in absurd (omega arith)
 
 -- what is not refused passed its test
 pub passed : (good : Bool) (why : Reason) (p : ℕ) → unless good why p ≡ None → good ≡ true

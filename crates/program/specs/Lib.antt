@@ -8,3 +8,4 @@ pub mod Blocks
 pub mod Firsts
 pub mod Wording
 pub mod Programs
+pub mod Hold

@@ -86,7 +86,8 @@ impl Table {
 }
 
 // An image has eight entries, used or not, and a header is copied: so the array, with a count beside it.
-/// The tables lie one after another from cell 0; entries from `used` on are not used.
+/// What stands in front of a program's instructions. The tables lie one after another from cell 0;
+/// entries from `used` on are not used.
 #[derive(Clone, Copy)]
 pub struct Header {
     pub kind: Kind,

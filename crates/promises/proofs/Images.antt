@@ -7,7 +7,7 @@ use Rattle.program.specs.Refusals.{unless, or_else}
 use Rattle.program.specs.Sound.{SoundList}
 use Rattle.program.specs.Pairing.{pairing}
 use Rattle.header.proofs.Rewritten.{header_sound}
-use Rattle.image.proofs.Answering.{header_good_lem, code_sound}
+use Rattle.image.proofs.Answering.{header_is_good, code_sound}
 use Rattle.image.proofs.Sounding.{SoundCode}
 use Rattle.converter.specs.Converting.{place_refusal, result_of}
 use Rattle.converter.proofs.Results.{source_there}
@@ -37,7 +37,7 @@ images_accepted hides bs small read unrefused =
     record {
       source = record {
         kind = source_there s.header.kind later (sym unrefused);
-        header = header_sound bs small (header_good_lem bs read);
+        header = header_sound bs small (header_is_good bs read);
         list = whole_list s sound;
         whole = sound.long;
       };

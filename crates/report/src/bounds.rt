@@ -1,9 +1,9 @@
 // The most steps and the most marks of a program.
-ghost use Rattle.std.specs.Prelude.{◌≡◌, ◌*◌};
-ghost use Rattle.memory.specs.Description.{held};
-ghost use Rattle.full_scan.specs.Scan.{turn_cost};
+ghost use Rattle.std.specs.Prelude.{◌≡◌, Some};
 ghost use Rattle.program.specs.Programs.{code_of};
 ghost use Rattle.counting.specs.Counting.{most_steps, most_marks};
+ghost use Rattle.report.specs.Costs.{flat_cost, scan_cost};
+ghost use Rattle.report.specs.Bounds.{bounds_text};
 
 use banked::Banked;
 use counting::{most_marks, most_steps};
@@ -32,9 +32,9 @@ fn empty(heap: Global) -> Leaf<Flat> {
 /// What a program counts. What an access costs does not depend on cells, so none are needed.
 pub fn bounds_of(heap: Global, program: &Program) -> Bounds
     ensures steps { result.steps ≡ most_steps (code_of program.now) }
-    ensures flat { result.flat ≡ most_marks (λ access len. 1) program.now.header.tables (code_of program.now) }
+    ensures flat { result.flat ≡ most_marks flat_cost program.now.header.tables (code_of program.now) }
     ensures banked { result.banked ≡ result.flat }
-    ensures scanned { result.scanned ≡ most_marks (λ access len. held (len * turn_cost (λ a l. 1) access len)) program.now.header.tables (code_of program.now) }
+    ensures scanned { result.scanned ≡ most_marks scan_cost program.now.header.tables (code_of program.now) }
 {
     let flat = empty(heap);
     let banked = Leaf::new(Banked::new(), Vec::new(heap));
@@ -48,6 +48,8 @@ pub fn bounds_of(heap: Global, program: &Program) -> Bounds
 }
 
 impl fmt::Display for Bounds {
+    ghost output = { λ b. Some (bounds_text b.steps b.flat b.banked b.scanned) };
+
     fn fmt<W: fmt::Write>(&self, f: &mut fmt::Formatter<W>) -> fmt::Result {
         let steps = self.steps;
         let flat = self.flat;

@@ -3,7 +3,7 @@ ghost use Rattle.std.specs.Prelude.{◌≡◌, length, Some, if◌then◌else◌
 ghost use Rattle.program.specs.Programs.{code_of};
 ghost use Rattle.counting.specs.Counting.{most_steps, most_marks};
 ghost use Rattle.report.specs.Converted.{memory_name, counts_text, refused_text, written_text};
-ghost use Rattle.report.specs.Marks.{flat_cost, scan_cost};
+ghost use Rattle.report.specs.Costs.{flat_cost, scan_cost};
 
 use crate::bounds::bounds_of;
 use program::program::Program;

@@ -109,9 +109,6 @@ module _ (tables : List Table) (code : List Instruction) where
       long = l;
     }
 
-    next_place : (gs : List OpenRepeat) (s : State) → go (suc p) gs s ≡ go (p + 1) gs s
-    next_place gs s = ap (λ x. go x gs s) (sym (add-one p))
-
   -- an access that was accepted
   module _ (p : ℕ) (fs : List OpenRepeat) (r : List ℕ) (d : Description) (t : List Event) (is : List Instruction) (law : Lawful d) (eight : length tables ≡ 8) where
     paid : (k : Access) (b off : ℕ) → b < 8 → Within d (first_cell tables b) (length_of tables b) off → d.rules.cost k (length_of tables b) ≤ free d
@@ -168,23 +165,6 @@ module _ (tables : List Table) (code : List Instruction) where
           long = refl;
         }
 
-  -- an index out of range
-  faulted : (p : ℕ) (fs : List OpenRepeat) (r : List ℕ) (d : Description) (t : List Event) (i : Instruction) (is : List Instruction) → drop p code ≡ i ∷ is → step (tables) code (i ∷ is) p fs (state r d.cells t) ≡ stop p (state r d.cells (visit p Fault ∷ t))
-      → Stepped p fs r d t (move p Fault) fs r d
-  faulted p fs r d t i is h e = record {
-    trace = visit p Fault ∷ t;
-    new = [];
-    goes = ap (λ x. step (tables) code x p fs (state r d.cells t)) h ∙ e;
-    rules = refl;
-    size = refl;
-    seen = sym (append-nil d.seen);
-    marks = sym (append-nil (marks_of tables d.rules.shows t));
-    weighed = omega arith;
-    visits = refl;
-    counts = refl;
-    long = refl;
-  }
-
   module _ (ws : List Window) (laid : Laid tables ws) (js : List ℕ) (res : Resolved code js) (eight : length tables ≡ 8) (p : ℕ) (fs : List OpenRepeat) (r : List ℕ) (d : Description) (t : List Event) (is : List Instruction) (law : Lawful d) (wide : length r ≡ 32) (m : Move) (fs' : List OpenRepeat) (r' : List ℕ) (d' : Description) where
     by_op : (o : Op) (ok : Bool) → drop p code ≡ Do o ∷ is → FitOp 32 8 o → ReadyOp ws r d o → Done ws r d ok r' d' o → After ok p m → fs' ≡ fs → Stepped p fs r d t m fs' r' d'
     by_op (Set x v) ok h f y g w e =
@@ -214,7 +194,7 @@ module _ (tables : List Table) (code : List Instruction) where
         let k = g'.1 o in
         let e1 : ltb (held r a) (length_of tables b) ≡ false = le-ltb (held r a) (length_of tables b) o in
         carry p fs r d t (Do (Load x a b)) is h m fs' r' d' p Fault fs r d (after_fault ok p m w k.0) e k.1 k.2
-        (faulted p fs r d t (Do (Load x a b)) is h (ap (λ z. land (loads z p x b (held r a) (first_cell tables b + held r a) (state r d.cells t)) (suc p) fs) e1)))
+        (quiet p fs r d t (Do (Load x a b)) is h Fault p fs r (ap (λ z. land (loads z p x b (held r a) (first_cell tables b + held r a) (state r d.cells t)) (suc p) fs) e1) refl))
         (cases_lt (held r a) (length_of tables b))
     by_op (Store x a b) ok h f y g w e =
         let l = laid b f.2 in
@@ -230,7 +210,7 @@ module _ (tables : List Table) (code : List Instruction) where
         let k = g'.1 o in
         let e1 : ltb (held r a) (length_of tables b) ≡ false = le-ltb (held r a) (length_of tables b) o in
         carry p fs r d t (Do (Store x a b)) is h m fs' r' d' p Fault fs r d (after_fault ok p m w k.0) e g.1 k.1
-        (faulted p fs r d t (Do (Store x a b)) is h (ap (λ z. land (stores z p x b (held r a) (first_cell tables b + held r a) (state r d.cells t)) (suc p) fs) e1)))
+        (quiet p fs r d t (Do (Store x a b)) is h Fault p fs r (ap (λ z. land (stores z p x b (held r a) (first_cell tables b + held r a) (state r d.cells t)) (suc p) fs) e1) refl))
         (cases_lt (held r a) (length_of tables b))
 
     by_if : (a n : ℕ) → held r a ≡ n → drop p code ≡ If a ∷ is → Turned ws js p fs r d m fs' r' d' (If a) → Stepped p fs r d t m fs' r' d'

@@ -1,7 +1,8 @@
 // A program's run on a memory.
 #![tactic(auto)]
 
-ghost use Rattle.std.specs.Prelude.{◌≡◌, length};
+ghost use Rattle.std.specs.Prelude.{◌≡◌, [], length};
+ghost use Rattle.stack.specs.Held.{held as opened};
 ghost use Rattle.machine.specs.States.{held};
 ghost use Rattle.program.specs.Programs.{code_of};
 ghost use Rattle.execution.specs.Runs.{RunsEnd};
@@ -32,14 +33,18 @@ pub struct Outcome {
     pub fault: Option<u16>,
 }
 
-// Registers 0 to 15 as given, all others 0.
-fn started(entry: &[u32; 16]) -> [u32; 32]
-    ensures same { held result ≡ held entry.now }
-    ensures wide { length result ≡ 32 }
+// Registers 0 to 15 as given, all others 0, and no repeat open.
+fn started(entry: &[u32; 16]) -> State
+    ensures same { held result.registers ≡ held entry.now }
+    ensures wide { length result.registers ≡ 32 }
+    ensures none { opened result.repeats.open ≡ [] }
 {
     let mut registers = [0; 32];
     registers[..16].copy_from_slice(entry);
-    registers
+    State {
+        registers,
+        repeats: Repeats::new(),
+    }
 }
 
 // Whether the run may begin, with room for so many visits.
@@ -75,10 +80,7 @@ fn go<M: Memory>(
     let layout = Layout::new(program);
     let count = usize::from(program.header().count);
     let before = memory.marks();
-    let mut state = State {
-        registers: started(entry),
-        repeats: Repeats::new(),
-    };
+    let mut state = started(entry);
     let mut place = 0;
     let mut steps = 0;
     'turns: while !is_over(place, count) {

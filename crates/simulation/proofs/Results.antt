@@ -9,7 +9,8 @@ use Rattle.program.specs.Blocks.{Block, done}
 use Rattle.machine.specs.States.{State}
 use Rattle.machine.specs.Machine.{Out, fine, fault, go, length_of, land, steps}
 use Rattle.machine.specs.Nested.{exec}
-use Rattle.machine.specs.Most.{Price, each_step, hold, most_of}
+use Rattle.program.specs.Hold.{hold}
+use Rattle.machine.specs.Most.{Price, each_step, most_of}
 use Rattle.execution.proofs.Counted.{counted}
 use Rattle.execution.proofs.Onward.{comes}
 use Rattle.counting.specs.Counting.{sums, most_steps, mark_price}

@@ -5,16 +5,15 @@ ghost use Rattle.std.specs.Prelude.{◌≡◌, ℕ, ◌≤◌, [], ◌∷◌, le
 ghost use Rattle.stack.specs.Items.{items, top, below, swapped};
 
 /// The most openings that are open together.
-pub const DEEPEST: usize = 8;
+const DEEPEST: usize = 8;
 
 /// There is no room for one more.
 #[derive(Clone, Copy, PartialEq, Eq, Debug)]
 pub struct Full;
 
 // Contracts of other crates see what it holds by one word, `held`, and an `impl Model` would save only that
-// word: no plainer.
-/// Its cells lie in the value itself, since nothing here allocates. `ArrayVec` of the library asks for
-/// a default of what it holds; this asks for none, and may not ask more of its callers now.
+// word: no plainer. `ArrayVec` of the library would ask for a default of what it holds.
+/// A stack of at most eight. Its cells lie in the value itself, since nothing here allocates.
 #[derive(Drop)]
 pub struct Stack<T> {
     cells: [T; 8],

@@ -18,8 +18,8 @@ use report::bounds::bounds_of;
 use std::env;
 use std::io::Read;
 
-/// A header of 64 bytes and 3,000 instructions of 8 bytes.
-const LONGEST_IMAGE: u64 = 24064;
+/// A header, and the most instructions that a program has.
+const LONGEST_IMAGE: u64 = 64 + 8 * 3000;
 
 fn arguments(rt: &HostRuntime) -> anyhow::Result<Arguments> {
     let mut arguments = Arguments::new(rt.alloc());

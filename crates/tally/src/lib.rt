@@ -8,7 +8,7 @@ use std::ops::AddAssign;
 
 pub mod report;
 
-/// Both numbers stop at the largest that there is.
+/// How many agree, of how many in all. Both numbers stop at the largest that there is.
 #[derive(Clone, Copy, Default)]
 pub struct Tally {
     pub agree: usize,

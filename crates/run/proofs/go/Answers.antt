@@ -7,7 +7,7 @@ use Rattle.machine.specs.Machine.{state_of}
 use Rattle.program.specs.Programs.{code_of}
 use Rattle.machine.proofs.Programs.{code_pairs}
 use Rattle.counting.specs.Counting.{most_steps}
-use Rattle.counting.proofs.Adding.{fits_eight}
+use Rattle.machine.proofs.Fitting.{fits_eight}
 use Rattle.run.specs.Run.{fault_of}
 use Rattle.run.proofs.Steps.{Stepped, turn_step}
 use Rattle.run.proofs.Going.{nested_of, kept_more, seen_more, turn_able, turn_room, turn_ready, turn_may, turn_more, turn_fault, turn_end, outcome, not_over, is_over}

@@ -4,4 +4,4 @@ use Rattle.counting.proofs.Adding.{Counted}
 use Rattle.counting.proofs.pass.most.Given as goal
 
 abbrev pub invariant-loop-instruction : goal.invariant-loop-instruction
-invariant-loop-instruction l = Counted (priced l.prices.step l.prices.tables) l.code l.instruction-index (held l.pass.parts) l.pass.sum
+invariant-loop-instruction l = Counted (priced l.prices.step l.prices.tables) l.code l.instruction-index (held l.pass.brackets) l.pass.sum

@@ -1,4 +1,4 @@
-// What make and settings fix stays, whatever is done to a memory.
+// Operations on a memory. What make and settings fix stays, whatever is done.
 ghost use Rattle.std.specs.Prelude.{◌≡◌};
 ghost use Rattle.memory.specs.Laws.{Settled};
 ghost use Rattle.piles.specs.Operations.{leaves};
