@@ -1,5 +1,6 @@
 // A call that is a value.
 ghost use Rattle.std.specs.Prelude.{◌≡◌, ◌++◌, length, drop};
+ghost use Rattle.calls.specs.Bytes.{ImageOfBytes};
 ghost use Rattle.calls.specs.Calls.{answer, after, visited};
 ghost use Rattle.bench.specs.Views.{view};
 ghost use Rattle.bench.specs.Rooms.{within};
@@ -16,6 +17,7 @@ impl<M: Memory> Bench<M> {
         ensures answer { result ≡ answer (within (length visits.old) call.now) (view M.model self.old) }
         ensures after { view M.model self.new ≡ after (within (length visits.old) call.now) (view M.model self.old) }
         ensures visits { let new = visited (within (length visits.old) call.now) (view M.model self.old) in visits.new ≡ new ++ drop (length new) visits.old }
+        ensures bytes { ImageOfBytes call.now }
     {
         Ok(match call {
             Call::Seat { image } => Answer::Counts {

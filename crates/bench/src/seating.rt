@@ -1,5 +1,6 @@
 // A program is seated on a bench.
 ghost use Rattle.std.specs.Prelude.{◌≡◌};
+ghost use Rattle.calls.specs.Bytes.{Bytes};
 ghost use Rattle.calls.specs.declared.Answer.TheVariants.{Counts};
 ghost use Rattle.bench.specs.Views.{view, answered_by, seat_answer, seat_after};
 
@@ -16,6 +17,7 @@ impl<M: Memory> Bench<M> {
     pub fn seat(&mut self, image: &[u8]) -> Result<Tally, Refusal>
         ensures answer { answered_by Counts result ≡ seat_answer image.now (view M.model self.old) }
         ensures after { view M.model self.new ≡ seat_after image.now (view M.model self.old) }
+        ensures bytes { Bytes image.now }
     {
         if self.program.is_some() {
             return Err(Reason::AlreadySeated.into());

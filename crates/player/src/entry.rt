@@ -1,5 +1,6 @@
 // An entry of a log: what a call answered, and what was then seen.
 ghost use Rattle.std.specs.Prelude.{◌≡◌, IfOk, MatchResult};
+ghost use Rattle.calls.specs.Bytes.{ImageOfBytes};
 ghost use Rattle.calls.specs.Calls.{after};
 ghost use Rattle.bench.specs.Views.{view};
 ghost use Rattle.player.specs.Entries.{room_of, made_by, shown, noted};
@@ -53,6 +54,7 @@ pub fn enter<M: Memory>(
 ) -> Result<Entry, AllocError>
     ensures entry { IfOk result (λ e. shown e ≡ noted call.now (view M.model bench.old)) }
     ensures after { MatchResult result (λ _. view M.model bench.new ≡ after call.now (view M.model bench.old)) (λ _. view M.model bench.new ≡ view M.model bench.old) }
+    ensures bytes { IfOk result (λ _. ImageOfBytes call.now) }
 {
     let mut visits = vec![in heap; UNVISITED; room_of(call)]?;
     let answer = bench.call(call, &mut visits);

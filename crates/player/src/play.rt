@@ -1,6 +1,7 @@
 // A list of calls, played on a new bench.
 ghost use Rattle.std.specs.Prelude.{◌≡◌, IfOk, map};
 ghost use Rattle.calls.specs.Benches.{new};
+ghost use Rattle.calls.specs.Bytes.{OfBytes};
 ghost use Rattle.calls.specs.Calls.{after_all};
 ghost use Rattle.promises.specs.Promises.{Promises};
 ghost use Rattle.player.specs.Entries.{shown, entries_of};
@@ -28,6 +29,7 @@ pub fn play<M: Memory + Drop>(
     ensures log { IfOk result (λ p. map shown p.log.items ≡ entries_of calls.now (new (M.model memory))) }
     ensures memory { IfOk result (λ p. M.model p.memory ≡ (after_all calls.now (new (M.model memory))).memory) }
     ensures promises { Promises (M.model memory) }
+    ensures bytes { IfOk result (λ _. OfBytes calls.now) }
 {
     let mut bench = Bench::new(heap, memory)?;
     let mut log = Vec::new(heap);

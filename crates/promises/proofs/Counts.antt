@@ -8,10 +8,11 @@ use Rattle.memory.specs.Accesses.{left}
 use Rattle.memory.specs.Laws.{Lawful}
 use Rattle.calls.specs.declared.Call.{Call}
 use Rattle.calls.specs.declared.Call.TheVariants.{Seat, Put, Arg, Go, Look, Open, Outcome, Clear}
+use Rattle.calls.specs.Bytes.{OfBytes, ImageOfBytes}
 use Rattle.calls.specs.Benches.{Seated, Bench, bench, or_blank, is_none, most_steps_of, most_marks_of, program, none_seated, new_visits, new_marks}
 use Rattle.calls.specs.Calls.{Test, ◌⇒◌, converted, refused, leaves, replies}
 use Rattle.promises.specs.Logs.{log}
-use Rattle.promises.specs.Promises.{Most, CountedBy, CountedGo, most_after, Tallies, OfBytes, ImageOfBytes}
+use Rattle.promises.specs.Promises.{Most, CountedBy, CountedGo, most_after, Tallies}
 use Rattle.promises.specs.Kept.{ImagesAccepted, RunsCounted}
 use Rattle.promises.proofs.Refused.{differ, fails, rest}
 use Rattle.promises.proofs.Logged.{logged}

@@ -12,11 +12,12 @@ use Rattle.calls.specs.declared.Call.{Call}
 use Rattle.calls.specs.declared.Call.TheVariants.{Seat, Put, Arg, Go, Look, Open, Outcome, Clear}
 use Rattle.calls.specs.declared.Answer.TheVariants.{Word, Ended}
 use Rattle.calls.specs.declared.Ending.{Ending}
+use Rattle.calls.specs.Bytes.{OfBytes, ImageOfBytes}
 use Rattle.calls.specs.Benches.{Seated, Bench, bench, or_blank, is_none, words, comes, ending, most_steps_of, most_marks_of, program, none_seated}
 use Rattle.calls.specs.Calls.{Test, ◌⇒◌, refused, leaves, replies, told, after_all}
 use Rattle.promises.specs.Plain.{Plain, plain, settled, takes, Says}
 use Rattle.promises.specs.Logs.{log, heard}
-use Rattle.promises.specs.Promises.{Follows, OfBytes, ImageOfBytes}
+use Rattle.promises.specs.Promises.{Follows}
 use Rattle.promises.specs.Kept.{ImagesAccepted, result_run, RunsFollow}
 use Rattle.promises.proofs.Refused.{differ, fails}
 use Rattle.promises.proofs.Words.{words_same}

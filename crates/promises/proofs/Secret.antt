@@ -4,10 +4,11 @@ use Rattle.program.specs.declared.refusal.Refusal.{Refusal}
 use Rattle.memory.specs.Description.{Description}
 use Rattle.memory.specs.Accesses.{left}
 use Rattle.calls.specs.declared.Call.{Call}
+use Rattle.calls.specs.Bytes.{ImageOfBytes, OfBytes}
 use Rattle.calls.specs.Benches.{Seated, Bench, new}
 use Rattle.calls.specs.Calls.{refused, leaves, after}
 use Rattle.promises.specs.Logs.{Entry, log}
-use Rattle.promises.specs.Promises.{ImageOfBytes, OfBytes, SameBut, same, seats, puts, args, early_puts, early_args, Alike, LooksLike, Each}
+use Rattle.promises.specs.Promises.{SameBut, same, seats, puts, args, early_puts, early_args, Alike, LooksLike, Each}
 use Rattle.promises.specs.Promises as P
 use Rattle.promises.specs.Kept.{ImagesAccepted, RunsAlike}
 use Rattle.promises.proofs.Logged.{logged}

@@ -1,5 +1,5 @@
 -- What every bench keeps.
-use Rattle.std.proofs.Common.{◌≡◌, ℕ, ◌+◌, ◌<◌, ◌≤◌, Bool, not, ltb, List, [], ◌∷◌, length, get_or, set, Some, None, vec_items, Option, sym, refl, ◌∙◌, subst, arith, length-set}
+use Rattle.std.proofs.Common.{◌≡◌, ℕ, ◌+◌, ◌≤◌, Bool, not, ltb, List, [], ◌∷◌, length, set, Some, None, vec_items, Option, sym, refl, ◌∙◌, subst, arith, length-set}
 use Rattle.std.proofs.lemmas.Bool.{ltb-false}
 use Rattle.program.specs.declared.refusal.Reason.TheVariants.{AlreadySeated, MemoryTooSmall}
 use Rattle.program.specs.declared.refusal.Refusal.{Refusal}
@@ -12,9 +12,9 @@ use Rattle.memory.specs.Accesses.{left}
 use Rattle.memory.specs.Laws.{Within, Lawful}
 use Rattle.calls.specs.declared.Call.{Call}
 use Rattle.calls.specs.declared.Call.TheVariants.{Seat, Put, Arg, Go, Look, Open, Outcome, Clear}
+use Rattle.calls.specs.Bytes.{Bytes, ImageOfBytes}
 use Rattle.calls.specs.Benches.{Seated, Bench, new, words, none_seated, base, gone}
 use Rattle.calls.specs.Calls.{◌⇒◌, first_of, source_at, converted, unconverted, unseated, refused, leaves, after}
-use Rattle.promises.specs.Promises.{ImageOfBytes}
 use Rattle.promises.specs.Kept.{Accepted, ImagesAccepted}
 use Rattle.promises.proofs.Refused.{none_left, none_right, fails}
 use Rattle.promises.proofs.Words.{words_length}
@@ -60,7 +60,7 @@ as_many : (hides : Bool) (m n : ℕ) (o s : Option Seated) → m ≡ n → From 
 as_many hides m n o s e f = subst (λ k. From hides k o s) (sym e) f
 
 module _ (images : ImagesAccepted) where
-  seated_from : (bs : List ℕ) (b : Bench) → ((i : ℕ) → get_or bs i 0 < 256) → unseated bs b ≡ None → From b.memory.rules.hides (length b.memory.cells) (Some (source_at bs)) (Some (converted (source_at bs)))
+  seated_from : (bs : List ℕ) (b : Bench) → Bytes bs → unseated bs b ≡ None → From b.memory.rules.hides (length b.memory.cells) (Some (source_at bs)) (Some (converted (source_at bs)))
   seated_from bs b small h =
       let v = first_of (not (none_seated b) ⇒ AlreadySeated ∷ []) in
       let x = image_refusal bs in

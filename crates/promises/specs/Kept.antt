@@ -1,5 +1,5 @@
 -- What the promises need of one source that is accepted: its result's runs, beside its own and beside each other.
-use Rattle.std.specs.Prelude.{◌≡◌, ℕ, ◌+◌, ◌<◌, ◌≤◌, Bool, false, List, length, None, slice_index}
+use Rattle.std.specs.Prelude.{◌≡◌, ℕ, ◌+◌, ◌<◌, ◌≤◌, Bool, false, List, length, None}
 use Rattle.program.specs.Headers.{cells_of, first_cell}
 use Rattle.memory.specs.Description.{Description}
 use Rattle.memory.specs.Laws.{Lawful}
@@ -12,6 +12,7 @@ use Rattle.simulation.specs.Results.{FollowsRun}
 use Rattle.converter.specs.Converting.{place_refusal}
 use Rattle.run.specs.Run.{visits_of, marks_of}
 use Rattle.calls.specs.Benches.{Seated, comes, most_steps_of, most_marks_of}
+use Rattle.calls.specs.Bytes.{Bytes}
 use Rattle.calls.specs.Calls.{source_at, converted, unconverted}
 use Rattle.promises.specs.Promises.{Straight}
 
@@ -24,7 +25,7 @@ pub record Accepted (hides : Bool) (s : Seated) : Type 0 where
 -- an image of bytes that neither reading nor converting refuses is such a source
 abbrev pub ImagesAccepted : Type 0
 ImagesAccepted =
-    (hides : Bool) (bs : List ℕ) → ((i : ℕ) → slice_index bs i < 256) → image_refusal bs ≡ None → unconverted hides (source_at bs) ≡ None → Accepted hides (source_at bs)
+    (hides : Bool) (bs : List ℕ) → Bytes bs → image_refusal bs ≡ None → unconverted hides (source_at bs) ≡ None → Accepted hides (source_at bs)
 
 -- where a run of what the source becomes comes to, from these entry registers and cells
 abbrev pub result_run : Seated → List ℕ → List ℕ → State

@@ -1,5 +1,5 @@
 -- What a bench promises of every list of calls.
-use Rattle.std.specs.Prelude.{◌≡◌, ℕ, ◌+◌, ◌<◌, ◌≤◌, Bool, true, false, List, [], ◌∷◌, length, Some, None, vec_items, Option, slice_index}
+use Rattle.std.specs.Prelude.{◌≡◌, ℕ, ◌+◌, ◌≤◌, Bool, true, false, List, [], ◌∷◌, length, Some, None, vec_items, Option}
 use Rattle.program.specs.Refusals.{refused_by}
 use Rattle.memory.specs.Description.{Mark, Description}
 use Rattle.memory.specs.Laws.{Lawful}
@@ -10,6 +10,7 @@ use Rattle.calls.specs.declared.Call.{Call}
 use Rattle.calls.specs.declared.Call.TheVariants.{Seat, Put, Arg, Go, Look, Open, Outcome, Clear}
 use Rattle.calls.specs.declared.Answer.{Answer}
 use Rattle.calls.specs.declared.Answer.TheVariants.{Done, Counts, Word, Ended}
+use Rattle.calls.specs.Bytes.{OfBytes}
 use Rattle.calls.specs.Benches.{Seated, Bench, new, none_seated, secret_table, secret_register}
 use Rattle.calls.specs.Calls.{source_at, after, after_all, counts}
 use Rattle.promises.specs.Plain.{Plain, first, takes, Says}
@@ -119,22 +120,6 @@ Tallies most before [] = Unit {0}
 Tallies most before (e ∷ es) =
     heard e.answer (Tallies most e.seen es)
     (λ a. CountedGo most before e e.call a × Tallies (most_after e.call a most) e.seen es)
-
--- the numbers of an image are bytes
-abbrev pub ImageOfBytes : Call → Type 0
-ImageOfBytes (Seat image) = (i : ℕ) → slice_index (vec_items image) i < 256
-ImageOfBytes (Put t i w) = Unit {0}
-ImageOfBytes (Arg r w) = Unit {0}
-ImageOfBytes (Go room) = Unit {0}
-ImageOfBytes (Look t i) = Unit {0}
-ImageOfBytes (Open t i) = Unit {0}
-ImageOfBytes Outcome = Unit {0}
-ImageOfBytes Clear = Unit {0}
-
--- the images are bytes, as the type of a call says
-abbrev pub OfBytes : List Call → Type 0
-OfBytes [] = Unit {0}
-OfBytes (c ∷ cs) = ImageOfBytes c × OfBytes cs
 
 -- of a bench that is made over a memory, and every list of calls
 pub record Promises (d : Description) : Type 0 where
