@@ -7,8 +7,7 @@ Each round makes 5,000 cases on images, 1,000 benches and 1,000 memories, from a
 the rival, and has `crates/vectors/out/vectors` run them (`cd crates/vectors && rt run` builds it). It prints what does
 not agree, and totals; the status is 1 where one case does not agree.
 
-Left out are cases that the two take as no cases in ways of their own: an image that reading refuses where a plan, a
-conversion or a run is asked for, and a banked memory that is given cells.
+Left out are cases that the two take as no cases in ways of their own: a banked memory that is given cells.
 """
 import os
 import re
@@ -22,15 +21,7 @@ VECTORS = os.path.join(ROOT, "crates", "vectors", "out", "vectors")
 KINDS = [("cases", 5000), ("benches", 1000), ("memories", 1000)]
 
 
-def refused_by_reading(line):
-    word = line.split(" ", 1)[0]
-    found = re.search(r"-> refused (\d+) \d+$", line)
-    return word in ("plan", "convert", "run") and found and int(found.group(1)) <= 7
-
-
 def is_case(line):
-    if refused_by_reading(line):
-        return False
     return not (line.startswith("run ") and "mem=banked" in line and "cells=- " not in line)
 
 

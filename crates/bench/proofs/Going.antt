@@ -17,9 +17,8 @@ use Rattle.run.specs.Run.{refusal, marks_of, Ended}
 use Rattle.memory.specs.Accesses.{left}
 use Rattle.calls.specs.declared.Call.TheVariants.{Go}
 use Rattle.calls.specs.declared.Ending.{Ending}
-use Rattle.calls.specs.Benches.{Seated, or_blank, bench, words, comes}
+use Rattle.calls.specs.Benches.{Seated, or_blank, bench, words, comes, ending_of}
 use Rattle.calls.specs.Calls.{first_of, ◌⇒◌, leaves, after}
-use Rattle.bench.specs.Endings.{ending_by}
 use Rattle.bench.proofs.Words.{words_all}
 
 -- one test, either way round
@@ -50,7 +49,7 @@ module _ (tables : List Table) (code : List Instruction) (d : Description) where
 -- the bench after a go that was accepted
 pub go_after : (s : Seated) (o : Option Seated) (entry : List ℕ) (last : Option Ending) (d d' : Description) (vs vs' : List Visit) (r : Outcome) (e : Ending)
     → o ≡ Some s → most_steps (or_blank o).code ≤ 1000000 → cells_of (or_blank o).header.tables ≤ length d.cells
-    → refusal s.header.tables s.code d (length vs) ≡ None → Ended s.header.tables s.code (comes s entry d.cells) d d' vs vs' r → e ≡ ending_by (held r.registers)
+    → refusal s.header.tables s.code d (length vs) ≡ None → Ended s.header.tables s.code (comes s entry d.cells) d d' vs vs' r → e ≡ ending_of (held r.registers) (held r.registers 24)
     → bench d' o entry (Some e) ≡ after (Go (length vs)) (bench d o entry last)
 go_after s o entry last d d' vs vs' r e is short fits accepted ended left_behind =
     let b = bench d (Some s) entry last in
@@ -59,6 +58,6 @@ go_after s o entry last d d' vs vs' r e is short fits accepted ended left_behind
     let steps : most_steps s.code ≤ 1000000 = subst (λ x. most_steps (or_blank x).code ≤ 1000000) is short in
     let cells : cells_of s.header.tables ≤ length d.cells = subst (λ x. cells_of (or_blank x).header.tables ≤ length d.cells) is fits in
     let none = sym accepted ∙ go_refusal s.header.tables s.code d (length vs) steps cells in
-    let here : bench d' (Some s) entry (Some e) ≡ new = λ t. bench (memory t) (Some s) entry (Some ((left_behind ∙ ap ending_by ended.registers) t)) in
+    let here : bench d' (Some s) entry (Some e) ≡ new = λ t. bench (memory t) (Some s) entry (Some ((left_behind ∙ ap (λ f. ending_of f (f 24)) ended.registers) t)) in
     let whole : bench d' (Some s) entry (Some e) ≡ after (Go (length vs)) b = here ∙ ap (λ x. left x b new) none in
     subst (λ x. bench d' x entry (Some e) ≡ after (Go (length vs)) (bench d x entry last)) (sym is) whole

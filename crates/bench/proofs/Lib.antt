@@ -1,4 +1,4 @@
 pub mod Fronts
 pub mod Going
-pub mod Rooms
+pub mod Longest
 pub mod Words

@@ -1,4 +1,3 @@
 pub mod Seats
 pub mod Views
-pub mod Endings
 pub mod Rooms

@@ -1,11 +1,11 @@
 // A go: the program that is seated is run.
 ghost use Rattle.std.specs.Prelude.{◌≡◌, ◌++◌, length, drop};
 ghost use Rattle.machine.specs.States.{held};
+ghost use Rattle.calls.specs.Benches.{ending_of};
 ghost use Rattle.calls.specs.declared.Call.TheVariants.{Go};
 ghost use Rattle.calls.specs.declared.Answer.TheVariants.{Counts};
 ghost use Rattle.calls.specs.Calls.{answer, after, visited};
 ghost use Rattle.bench.specs.Views.{view, answered_by};
-ghost use Rattle.bench.specs.Endings.{ending_by};
 
 use crate::bench::Bench;
 use calls::{Ending, Tally};
@@ -17,7 +17,7 @@ use run::{Outcome, run};
 // What a run left in registers 0 to 15 and 24.
 fn ending(outcome: &Outcome) -> Ending
     requires { length outcome.now.registers ≡ 32 }
-    ensures { result ≡ ending_by (held outcome.now.registers) }
+    ensures { result ≡ ending_of (held outcome.now.registers) (held outcome.now.registers 24) }
 {
     let mut registers = [0; 16];
     registers.copy_from_slice(&outcome.registers[..16]);

@@ -4,6 +4,7 @@
 
 mod added;
 mod answered;
+mod halt;
 mod taken;
 mod totals;
 

@@ -1,11 +1,11 @@
 // The calls of a script, with the images that it names.
+use crate::halt::Halt;
 use calls::Call;
 use script::order::Order;
 use script::script::{Line, Script};
-use script::unread::Stop;
 use std::alloc::AllocError;
+use std::fs;
 use std::path::Path;
-use std::{fmt, fs};
 
 /// What a log has to know of a call.
 #[derive(Clone, Copy, PartialEq, Eq)]
@@ -21,25 +21,6 @@ pub(crate) struct Told<'a> {
     pub number: usize,
     pub text: &'a str,
     pub kind: Kind,
-}
-
-/// Why the calls end before the script does.
-#[derive(Clone, Copy)]
-pub(crate) enum Halt<'a> {
-    NoCall(Stop),
-    /// The file of an image cannot be read.
-    NoImage { number: usize, text: &'a str },
-}
-
-impl fmt::Display for Halt<'_> {
-    fn fmt<W: fmt::Write>(&self, f: &mut fmt::Formatter<W>) -> fmt::Result {
-        match *self {
-            Halt::NoCall(stop) => write!(f, "{stop}"),
-            Halt::NoImage { number, text } => {
-                write!(f, "line {number}: the image cannot be read: {text}")
-            }
-        }
-    }
 }
 
 // The calls stand by themselves, since they are played as a list.

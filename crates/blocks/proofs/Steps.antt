@@ -5,7 +5,7 @@ use Rattle.std.proofs.lemmas.Str.Pattern.{starts_text}
 use Rattle.std.specs.List.{starts_with}
 use Rattle.std.specs.Str.Pattern.{StripsPrefix, FindsTextPrefix}
 use Rattle.std.specs.Str.{IsCharBoundary}
-use Rattle.blocks.specs.Numbers.{closed_at, open_after, blocks_among}
+use Rattle.blocks.specs.Counts.{closed_at, open_after, blocks_among}
 
 pub stripped : (r : Option (Bor (List ℕ))) (s n : List ℕ) → MatchOption r (FindsTextPrefix n s None) (λ x. StripsPrefix (FindsTextPrefix n) s x.now) → is_some r ≡ starts_with eqb s n
 stripped None s n h = starts_text false n s h

@@ -1,10 +1,7 @@
 // Calls of a bench, as lines have them.
 use crate::line_error::LineError;
-use calls::Call;
+use calls::{Call, MOST_VISITS};
 use std::alloc::Global;
-
-/// The longest visit list that a go may ask for.
-const MOST_VISITS: usize = 1_000_000;
 
 pub(crate) fn call_of(heap: Global, text: &str) -> Result<Call, LineError> {
     let words: Vec<&str> = text.split(' ').collect(heap)?;
@@ -46,6 +43,7 @@ fn bytes(heap: Global, text: &str) -> Result<Vec<u8>, LineError> {
     Ok(hexadecimal::decode(heap, text.as_bytes())?)
 }
 
+// The length of a visit list: no go needs more than the most visits.
 fn length(text: &str) -> Result<usize, LineError> {
     match text.parse::<usize>() {
         Ok(length) if length <= MOST_VISITS => Ok(length),

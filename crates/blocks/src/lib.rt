@@ -4,12 +4,13 @@
 
 ghost use Rattle.std.specs.Prelude.{◌≡◌, ℕ, ◌+◌, IfOk, is_some, if◌then◌else◌};
 ghost use Rattle.counted.specs.Counted.{Counted};
-ghost use Rattle.blocks.specs.Numbers.{begins, closed_at, open_after, blocks_in};
+ghost use Rattle.blocks.specs.Counts.{begins, closed_at, open_after, blocks_in};
 
 mod bench_call;
-mod benched;
 mod block;
 mod held;
+mod held_bench;
+mod held_pile;
 mod line_error;
 mod lines;
 mod memory_call;

@@ -1,16 +1,11 @@
 // Calls to a memory, as lines have them.
-ghost use Rattle.std.specs.Prelude.{codes};
-
-use crate::held::Held;
 use crate::line_error::LineError;
-use layered::pile::Pile;
-use makes::call;
 use makes::call::Call;
 use memory::Access;
 use memory::window::Window;
-use std::alloc::{AllocError, Global};
+use std::alloc::Global;
 
-fn call_of(heap: Global, text: &str) -> Result<Call, LineError> {
+pub(crate) fn call_of(heap: Global, text: &str) -> Result<Call, LineError> {
     let words: Vec<&str> = text.split(' ').collect(heap)?;
     Ok(match words.as_slice() {
         ["read", base, len, off] => Call::Read {
@@ -45,30 +40,4 @@ fn table(base: &str, len: &str) -> Result<Window, LineError> {
         first: base.parse()?,
         length: len.parse()?,
     })
-}
-
-/// A memory by itself.
-impl Held for Pile {
-    ghost head = { codes "memory " };
-
-    fn head() -> &'static str {
-        "memory "
-    }
-
-    fn over(_heap: Global, pile: Pile) -> Result<Pile, AllocError> {
-        Ok(pile)
-    }
-
-    fn answer(&mut self, heap: Global, text: &str) -> Result<String, LineError> {
-        let call = call_of(heap, text)?;
-        Ok(call::perform(self, call).to_string(heap)?)
-    }
-
-    fn pile(&self) -> &Pile {
-        self
-    }
-
-    fn into_pile(self) -> Pile {
-        self
-    }
 }

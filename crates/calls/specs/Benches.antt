@@ -64,9 +64,13 @@ words n f = words_from 0 n f
 abbrev pub comes : Seated → List ℕ → List ℕ → Conf
 comes s entry cells = finish s.header.tables s.code entry cells
 
+-- registers 0 to 15 of these, and what register 24 is to say
+abbrev pub ending_of : (ℕ → ℕ) → ℕ → Ending
+ending_of registers fault = record { registers = words 16 registers; fault = fault }
+
 -- registers 0 to 15 and register 24 of a state
 abbrev pub ending : State → Ending
-ending x = record { registers = words 16 x.registers; fault = x.registers 24 }
+ending x = ending_of x.registers (x.registers 24)
 
 abbrev pub most_steps_of : Seated → ℕ
 most_steps_of s = most_steps s.code

@@ -1,6 +1,9 @@
 // What is asked of a bench, and what it answers.
 #![tactic(auto)]
 
+/// The most visits that a go makes: no program with more steps is seated.
+pub const MOST_VISITS: usize = 1_000_000;
+
 /// A call, with its arguments.
 #[derive(Drop)]
 pub enum Call {

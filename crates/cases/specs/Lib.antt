@@ -1,4 +1,4 @@
 pub mod Lines
 pub mod Unread
 pub mod Wording
-pub mod Numbers
+pub mod Counts

@@ -7,6 +7,7 @@ ghost use Rattle.cases.specs.Wording.{case_error_text};
 use hexadecimal::DecodeError;
 use makes::named::Unnamed;
 use makes::words::WordsError;
+use program::handed_back::HandedBack;
 use program::refusal::Refusal;
 use std::alloc::AllocError;
 use std::error::Error;
@@ -46,6 +47,14 @@ impl From<Refusal> for CaseError {
 
     fn from(refusal: Refusal) -> CaseError {
         CaseError::Refused(refusal)
+    }
+}
+
+impl From<HandedBack> for CaseError {
+    ghost from_gives = { λ back e. e ≡ Refused back.refusal };
+
+    fn from(back: HandedBack) -> CaseError {
+        CaseError::Refused(back.refusal)
     }
 }
 

@@ -4,6 +4,8 @@
 pub mod bytes;
 pub mod case;
 pub mod case_error;
-pub mod named;
+pub mod case_file;
+pub mod file_report;
 pub mod plans;
 pub mod visits;
+mod ways;

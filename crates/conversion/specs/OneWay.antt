@@ -3,7 +3,7 @@ use Rattle.std.specs.Prelude.{◌≡◌, ℕ, suc, Bool, true, List, [], ◌∷�
 use Rattle.instructions.specs.declared.Instruction.{Instruction}
 use Rattle.instructions.specs.declared.Instruction.TheVariants.{Do, If, Else, End, Repeat, Again}
 
--- so it is from place p on
+-- the instructions from place p on have one way through
 abbrev pub OneWay : (ℕ → ℕ → Bool) → ℕ → List Instruction → Type 0
 OneWay S p [] = Unit {0}
 OneWay S p (Do op ∷ is) = OneWay S (suc p) is

@@ -1,6 +1,6 @@
 -- A converted program keeps the bounds of its kind.
 use Rattle.std.proofs.Common.{◌≡◌, ℕ, zero, suc, ◌+◌, ◌<◌, ◌≤◌, Bool, true, false, cond, ◌&&◌, ltb, leb, List, [], ◌∷◌, ◌++◌, length, get_or, refl, ap, arith}
-use Rattle.std.proofs.lemmas.Bool.{and_parts, and_from, ltb-true, lt-ltb, false≢true}
+use Rattle.std.proofs.lemmas.Bool.{and_parts, and_from, ltb-true, false≢true}
 use Rattle.instructions.specs.declared.Op.{Op}
 use Rattle.instructions.specs.declared.Instruction.{Instruction}
 use Rattle.instructions.specs.declared.Instruction.TheVariants.{Do, If, Else, End, Repeat, Again}
@@ -17,7 +17,7 @@ use Rattle.groups.specs.Groups.{straight, mask_at, op_group, if_group, else_grou
 use Rattle.conversion.specs.Conversion.{secret_if, secret_else, becomes, convert}
 use Rattle.converter.proofs.Shapes.{Fit}
 use Rattle.converter.proofs.Paired.{shapes}
-use Rattle.converter.proofs.Fitting.{mask_fits, AllOps, op_group_lem, if_group_lem, else_group_lem}
+use Rattle.converter.proofs.Fitting.{wide, mask_fits, AllOps, op_group_fits, if_group_fits, else_group_fits}
 
 length-shapes : (ks : List (Marked Bool)) → length (shapes ks) ≡ length ks
 length-shapes [] = refl
@@ -45,15 +45,12 @@ module _ (used : ℕ) where
   all_straight [] h = refl
   all_straight (o ∷ os) h = let b = and_parts (bound_op 32 used o) (AllOps used os) h in and_from _ _ b.0 (all_straight os b.1)
 
-  wide : (r : ℕ) → ltb r 16 ≡ true → ltb r 32 ≡ true
-  wide r e = let h = ltb-true r 16 e in lt-ltb r 32 (omega arith)
-
   if_fits : (c : Bool) (s a : ℕ) → s ≤ 8 → ltb a 16 ≡ true → All 32 used (cond c (secret_if s a) (If a ∷ [])) ≡ true
-  if_fits true s a h e = all_straight (if_group (mask_at s) (16 + s) a) (if_group_lem used (mask_at s) (16 + s) a (mask_fits s h) (omega arith) e)
+  if_fits true s a h e = all_straight (if_group (mask_at s) (16 + s) a) (if_group_fits used (mask_at s) (16 + s) a (mask_fits s h) (omega arith) e)
   if_fits false s a h e = and_from _ _ (wide a e) refl
 
   else_fits : (c : Bool) (s : ℕ) → s ≤ 8 → All 32 used (cond c (secret_else s) (Else ∷ [])) ≡ true
-  else_fits true s h = all_straight (else_group (mask_at s) (16 + s)) (else_group_lem used (mask_at s) (16 + s) (mask_fits s h) (omega arith))
+  else_fits true s h = all_straight (else_group (mask_at s) (16 + s)) (else_group_fits used (mask_at s) (16 + s) (mask_fits s h) (omega arith))
   else_fits false s h = refl
 
   end_fits : (c : Bool) → All 32 used (cond c [] (End ∷ [])) ≡ true
@@ -64,7 +61,7 @@ module _ (used : ℕ) where
     one_fits : (A : ℕ → Bool) (ks : List (Marked Bool)) (p : ℕ) (i : Instruction) → length ks ≤ 8 → p < 200 → bound 16 used i ≡ true → All 32 used (becomes long A ks p i) ≡ true
     one_fits A ks p (Do op) l q e =
         let s : secrets_of ks ≤ 8 = omega (arith, secrets_le ks) in
-        all_straight (op_group long (mask_at (secrets_of ks)) p op) (op_group_lem used long lengths (mask_at (secrets_of ks)) p op (mask_fits (secrets_of ks) s) q e)
+        all_straight (op_group long (mask_at (secrets_of ks)) p op) (op_group_fits used long lengths (mask_at (secrets_of ks)) p op (mask_fits (secrets_of ks) s) q e)
     one_fits A ks p (If a) l q e = if_fits (A a) (secrets_of ks) a (omega (arith, secrets_le ks)) e
     one_fits A [] p Else l q e = refl
     one_fits A (k ∷ ks) p Else l q e = else_fits k.label (secrets_of ks) (omega (arith, secrets_le ks))

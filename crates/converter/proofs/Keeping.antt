@@ -18,9 +18,8 @@ use Rattle.program.specs.Sound.{SoundList}
 use Rattle.program.proofs.Refusals.{both, passed}
 use Rattle.labels.specs.Kinds.{secrecy}
 use Rattle.labels.specs.Rules.{Solves}
-use Rattle.labels.specs.Sets.{bits, sets, secret_tables}
+use Rattle.labels.specs.Sets.{bits, secret_tables}
 use Rattle.labels.proofs.Proved.{smallest_exists}
-use Rattle.plan.specs.Planned.{plan_of}
 use Rattle.machine.specs.Machine.{go, steps}
 use Rattle.machine.proofs.Programs.{code_long}
 use Rattle.counting.specs.Counting.{most_steps}
@@ -38,42 +37,41 @@ use Rattle.secrecy.specs.Alike.{Alike}
 use Rattle.secrecy.specs.Converted.{wide}
 use Rattle.secrecy.specs.Whole.{EndsIn}
 use Rattle.secrecy.proofs.Whole.{whole_runs_alike, converted_runs_alike}
-use Rattle.secrecy.proofs.Together.{whole_runs_together}
+use Rattle.secrecy.proofs.Together.{bare_same, whole_runs_together}
+use Rattle.secrecy.proofs.Beyond.{beyond_stays}
 use Rattle.secrecy.proofs.Unmasked.{unmasked_carries}
-use Rattle.converter.specs.Converting.{result_of, place_refusal, size_refusal, convert_refusal}
-use Rattle.converter.specs.Theorems.{Keeps, OfAnyMaker}
+use Rattle.converter.specs.Converting.{smallest_labels, result_of, place_refusal, size_refusal, convert_refusal}
+use Rattle.converter.specs.Keeps.{Keeps}
+use Rattle.converter.specs.AnyMaker.{OfAnyMaker}
 
 -- a source, by its smallest labels
 module _ (h : Header) (code : List Instruction) (source : IsSource h code) where
-  abbrev pub labels : ℕ → ℕ → Bool
-  labels = sets (plan_of h code)
-
   bounds : (p : ℕ) → p < length code → bound 16 h.used (get_or code p Again) ≡ true
   bounds p l = subst (λ k. bound (registers_of k) h.used (get_or code p Again) ≡ true) source.kind (source.list.bounds p (omega (arith, source.whole)))
 
-  pub solves : Solves secrecy (secret_tables h.tables) (bits h.secret_entry) code labels
+  pub solves : Solves secrecy (secret_tables h.tables) (bits h.secret_entry) code (smallest_labels h code)
   solves = (smallest_exists h.used (secret_tables h.tables) h.secret_entry code source.header.narrow bounds).solves
 
-  pub tree_of : Tree labels h code
-  tree_of = trees labels h code source
+  pub tree_of : Tree (smallest_labels h code) h code
+  tree_of = trees (smallest_labels h code) h code source
 
   -- where no place is refused, the labels are kept block by block
-  pub labelled : (hides : Bool) → place_refusal h code hides ≡ None → Labelled (secret_tables h.tables) (hidden_by hides) labels 0 tree_of.block 0
+  pub labelled : (hides : Bool) → place_refusal h code hides ≡ None → Labelled (secret_tables h.tables) (hidden_by hides) (smallest_labels h code) 0 tree_of.block 0
   labelled hides none =
-      labellings (secret_tables h.tables) (hidden_by hides) (bits h.secret_entry) labels tree_of.block tree_of.notes
-      (subst (λ c. Solves secrecy (secret_tables h.tables) (bits h.secret_entry) c labels) (sym tree_of.row) solves)
-      (subst (λ c. first_wrong (secret_tables h.tables) (hidden_by hides) labels [] 0 c ≡ None) (sym tree_of.row) none)
+      labellings (secret_tables h.tables) (hidden_by hides) (bits h.secret_entry) (smallest_labels h code) tree_of.block tree_of.notes
+      (subst (λ c. Solves secrecy (secret_tables h.tables) (bits h.secret_entry) c (smallest_labels h code)) (sym tree_of.row) solves)
+      (subst (λ c. first_wrong (secret_tables h.tables) (hidden_by hides) (smallest_labels h code) [] 0 c ≡ None) (sym tree_of.row) none)
 
   ends : fin tree_of.block 0 ≡ length code
   ends = let e = long tree_of.block 0 [] in let f = ap length tree_of.row in omega arith
 
   module _ (hides : Bool) (none : place_refusal h code hides ≡ None) (few : most_steps (result_of h code) ≤ 1000000) where
-    pub alike : (x y z w : _) → Alike h.tables (secret_tables h.tables) (hidden_by hides) (wide (labels 0)) x y
+    pub alike : (x y z w : _) → Alike h.tables (secret_tables h.tables) (hidden_by hides) (wide (smallest_labels h code 0)) x y
         → EndsIn h.tables (result_of h code) x z → EndsIn h.tables (result_of h code) y w
-        → Alike h.tables (secret_tables h.tables) (hidden_by hides) (wide (labels (length code))) z w
+        → Alike h.tables (secret_tables h.tables) (hidden_by hides) (wide (smallest_labels h code (length code))) z w
     alike x y z w a e f =
-        subst (λ n. Alike h.tables (secret_tables h.tables) (hidden_by hides) (wide (labels n)) z w) ends
-        (converted_runs_alike h.tables (secret_tables h.tables) (hidden_by hides) labels (lengths h.tables) h.used tree_of.block (result_of h code) x y z w
+        subst (λ n. Alike h.tables (secret_tables h.tables) (hidden_by hides) (wide (smallest_labels h code n)) z w) ends
+        (converted_runs_alike h.tables (secret_tables h.tables) (hidden_by hides) (smallest_labels h code) (lengths h.tables) h.used tree_of.block (result_of h code) x y z w
         tree_of.fits (labelled hides none) tree_of.result tree_of.shallow few a e f)
 
 -- a program that is a source
@@ -114,12 +112,12 @@ module _ (s : Program) (kind : s.header.kind ≡ Source) where
         let t = tree_of h code is in
         let tables = h.tables in
         record {
-          most = subst (λ c. most_steps code ≤ most_steps c) (sym e) (result_steps_grow (sets (plan_of h code)) h code t);
+          most = subst (λ c. most_steps code ≤ most_steps c) (sym e) (result_steps_grow (smallest_labels h code) h code t);
           follows = λ x low.
               subst (λ c. (z : _) × EndsIn tables c x z × FollowsRun (steps tables code (most_steps code) (go 0 [] x)) z) (sym e)
-              (result_follows (sets (plan_of h code)) h code x is.header t few_steps low);
+              (result_follows (smallest_labels h code) h code x is.header t few_steps low);
           alike = λ x y z w a f g. alike h code is hides no_place few_steps x y z w a (subst (λ c. EndsIn tables c x z) e f) (subst (λ c. EndsIn tables c y w) e g);
         }
 
 pub of_any_maker : OfAnyMaker
-of_any_maker = record { carried = unmasked_carries; alike = whole_runs_alike; together = whole_runs_together }
+of_any_maker = record { carried = unmasked_carries; alike = whole_runs_alike; together = whole_runs_together; same = bare_same; beyond = beyond_stays }

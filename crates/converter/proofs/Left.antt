@@ -9,7 +9,7 @@ use Rattle.labels.specs.Passes.{opens}
 use Rattle.masks.specs.Counts.{secrets_of}
 use Rattle.groups.specs.Groups.{straight, mask_at, op_group, if_group, else_group}
 use Rattle.conversion.specs.Conversion.{secret_if, secret_else, becomes, convert}
-use Rattle.converter.specs.Theorems.{brackets, public_one, public_brackets}
+use Rattle.converter.specs.Straight.{brackets, public_one, public_brackets}
 
 brackets_both : (xs ys : List Instruction) → brackets (xs ++ ys) ≡ brackets xs ++ brackets ys
 brackets_both [] ys = refl

@@ -1,12 +1,13 @@
 -- A converted program is paired as its source is: secret ifs leave no bracket, the others keep theirs.
-use Rattle.brackets.specs.Labelled.{mark}
 use Rattle.std.proofs.Common.{◌≡◌, ℕ, suc, ◌+◌, ◌≤◌, Bool, true, false, cond, ◌&&◌, ltb, List, [], ◌∷◌, ◌++◌, length, refl, ◌∙◌, arith}
+use Rattle.std.proofs.lemmas.Bool.{and_parts, and_from}
 use Rattle.instructions.specs.declared.Op.{Op}
 use Rattle.instructions.specs.declared.Instruction.{Instruction}
 use Rattle.instructions.specs.declared.Instruction.TheVariants.{Do, If, Else, End, Repeat, Again}
 use Rattle.program.specs.declared.opening.Opening.{Opening}
 use Rattle.program.specs.declared.opening.Opening.TheVariants.{Then, Otherwise, Loop}
 use Rattle.program.specs.declared.opening.Marked.{Marked}
+use Rattle.brackets.specs.Labelled.{mark}
 use Rattle.masks.specs.Counts.{secrets_of}
 use Rattle.groups.specs.Groups.{straight, mask_at, op_group, if_group, else_group}
 use Rattle.conversion.specs.Conversion.{secret_if, convert}
@@ -43,14 +44,6 @@ skip [] ss is = refl
 skip (o ∷ os) [] is = skip os [] is
 skip (o ∷ os) (s ∷ ss) is = skip os (s ∷ ss) is
 
-and_both : (a b : Bool) → (a && b) ≡ true → (a ≡ true) × (b ≡ true)
-and_both true b h = (refl, h)
-and_both false b h = let z : ◌≡◌ {A = ℕ} 0 1 = cc in absurd (omega arith)
-
-and_make : (a b : Bool) → a ≡ true → b ≡ true → (a && b) ≡ true
-and_make true b h k = k
-and_make false b h k = h
-
 less : (a b : ℕ) → a ≤ b → ltb b 8 ≡ true → ltb a 8 ≡ true
 less a b h k = grind (arith)
 
@@ -61,11 +54,11 @@ module _ (long : ℕ → ℕ) (S : ℕ → ℕ → Bool) where
   keep_if : (is : List Instruction) → Kept is → (ks : List (Marked Bool)) (p a : ℕ) (c : Bool) → Rights ks → Fit (shapes ks) (If a ∷ is) ≡ true
       → Fit (publics ks) (cond c (secret_if (secrets_of ks) a) (If a ∷ []) ++ convert long S (mark (Then p a) c ∷ ks) (suc p) is) ≡ true
   keep_if is ih ks p a true r h =
-      let b = and_both (ltb (length (shapes ks)) 8) _ h in
+      let b = and_parts (ltb (length (shapes ks)) 8) _ h in
       skip (if_group (mask_at (secrets_of ks)) (16 + secrets_of ks) a) (publics ks) _ ∙ ih (mark (Then p a) true ∷ ks) (suc p) (tt, r) b.1
   keep_if is ih ks p a false r h =
-      let b = and_both (ltb (length (shapes ks)) 8) _ h in
-      and_make _ _ (less (length (publics ks)) (length (shapes ks)) (fewer ks) b.0) (ih (mark (Then p a) false ∷ ks) (suc p) (tt, r) b.1)
+      let b = and_parts (ltb (length (shapes ks)) 8) _ h in
+      and_from _ _ (less (length (publics ks)) (length (shapes ks)) (fewer ks) b.0) (ih (mark (Then p a) false ∷ ks) (suc p) (tt, r) b.1)
 
   keep_else : (is : List Instruction) → Kept is → (ks : List (Marked Bool)) (p : ℕ) (w : Opening) (c : Bool) → Rights ks → Fit (shape_of w ∷ shapes ks) (Else ∷ is) ≡ true
       → Fit (publics (mark w c ∷ ks)) (convert long S (mark w c ∷ ks) p (Else ∷ is)) ≡ true
@@ -99,8 +92,8 @@ module _ (long : ℕ → ℕ) (S : ℕ → ℕ → Bool) where
   keeps (End ∷ is) [] p r h = h
   keeps (End ∷ is) (k ∷ ks) p r h = keep_end is (keeps is) ks p k.opening k.label r.1 h
   keeps (Repeat a n ∷ is) ks p r h =
-      let b = and_both (ltb (length (shapes ks)) 8) _ h in
-      and_make _ _ (less (length (publics ks)) (length (shapes ks)) (fewer ks) b.0) (keeps is (mark (Loop p) false ∷ ks) (suc p) (refl, r) b.1)
+      let b = and_parts (ltb (length (shapes ks)) 8) _ h in
+      and_from _ _ (less (length (publics ks)) (length (shapes ks)) (fewer ks) b.0) (keeps is (mark (Loop p) false ∷ ks) (suc p) (refl, r) b.1)
   keeps (Again ∷ is) [] p r h = h
   keeps (Again ∷ is) (k ∷ ks) p r h = keep_again is (keeps is) ks p k.opening k.label r.0 r.1 h
 

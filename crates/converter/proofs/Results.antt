@@ -1,5 +1,5 @@
 -- What a source's result is.
-use Rattle.std.proofs.Common.{◌≡◌, ℕ, ◌+◌, ◌<◌, ◌≤◌, Bool, true, false, ltb, leb, List, [], ◌++◌, length, get_or, take, is_some, Some, None, vec_items, Option, sym, refl, ap, ◌∙◌, subst, arith}
+use Rattle.std.proofs.Common.{◌≡◌, ℕ, ◌+◌, ◌<◌, ◌≤◌, Bool, true, false, ltb, leb, List, [], ◌++◌, length, get_or, take, is_some, None, vec_items, Option, sym, refl, ap, ◌∙◌, subst, arith}
 use Rattle.std.proofs.lemmas.List.{get_or-take, get_or_append_left, take_at, length-append}
 use Rattle.std.proofs.lemmas.Bool.{and_parts, ltb-true, leb-true}
 use Rattle.instructions.specs.declared.Instruction.{Instruction}
@@ -8,7 +8,6 @@ use Rattle.program.specs.declared.header.Table.{Table}
 use Rattle.program.specs.declared.header.Kind.{Kind}
 use Rattle.program.specs.declared.header.Kind.TheVariants.{Source, Converted}
 use Rattle.program.specs.declared.refusal.Refusal.{Refusal}
-use Rattle.program.specs.declared.refusal.Reason.{Reason}
 use Rattle.program.specs.declared.refusal.Reason.TheVariants.{NotASource}
 use Rattle.program.specs.Refusals.{unless, or_else}
 use Rattle.program.specs.declared.program.Program.{Program}
@@ -18,6 +17,7 @@ use Rattle.program.specs.Pairing.{pairing}
 use Rattle.program.specs.Blocks.{Nested}
 use Rattle.brackets.proofs.Nesting.{paired_is_nested}
 use Rattle.program.specs.Sound.{SoundList}
+use Rattle.program.proofs.Refusals.{passed_first}
 use Rattle.labels.specs.Sets.{sets, secret_tables}
 use Rattle.labels.proofs.Reckoning.{reckoned}
 use Rattle.plan.specs.Planned.{plan_of, Passable}
@@ -30,7 +30,7 @@ use Rattle.groups.specs.Groups.{lengths}
 use Rattle.converter.specs.Converting.{result_of, result_header}
 use Rattle.converter.proofs.Shapes.{shaped, placed}
 use Rattle.converter.proofs.Paired.{paired}
-use Rattle.converter.specs.Theorems.{brackets, Straight}
+use Rattle.converter.specs.Straight.{brackets, Straight}
 use Rattle.converter.proofs.Left.{all_left}
 use Rattle.converter.proofs.Bounded.{all_at, all_from, bounded}
 
@@ -38,21 +38,13 @@ table_short : (t : Table) (b : Bool) → b ≡ true → table_fits t b ≡ true 
 table_short t true e h = leb-true t.length 1024 (and_parts (leb 1 t.length) (leb t.length 1024) h).1
 table_short t false e h = let z : ◌≡◌ {A = ℕ} 0 1 = cc in absurd (omega arith)
 
-none_both : (x y : Option Refusal) → None ≡ or_else x y → (None ≡ x) × (None ≡ y)
-none_both None y e = (refl, e)
-none_both (Some r) y e = let z : ◌≡◌ {A = ℕ} 0 1 = cc in absurd (omega arith)
-
-none_unless : (b : Bool) (why : Reason) (p : ℕ) → None ≡ unless b why p → b ≡ true
-none_unless true why p e = refl
-none_unless false why p e = let z : ◌≡◌ {A = ℕ} 0 1 = cc in absurd (omega arith)
-
-is_source_lem : (k : Kind) → is_source k ≡ true → k ≡ Source
-is_source_lem Source e = refl
-is_source_lem Converted e = let z : ◌≡◌ {A = ℕ} 0 1 = cc in absurd (omega arith)
+source_kind : (k : Kind) → is_source k ≡ true → k ≡ Source
+source_kind Source e = refl
+source_kind Converted e = let z : ◌≡◌ {A = ℕ} 0 1 = cc in absurd (omega arith)
 
 -- what is not refused as another kind is a source
 pub source_there : (k : Kind) (later : Option Refusal) → None ≡ or_else (unless (is_source k) NotASource 0) later → k ≡ Source
-source_there k later e = is_source_lem k (none_unless (is_source k) NotASource 0 (none_both (unless (is_source k) NotASource 0) later e).0)
+source_there k later e = source_kind k (passed_first (is_source k) NotASource 0 later (sym e)).0
 
 module _ (s : Program) (kind : s.header.kind ≡ Source) where
   pub source_short : length (code_of s) ≤ 200

@@ -34,7 +34,7 @@ module _ (long : ℕ → ℕ) (p : ℕ) where
   end_short true = omega arith
   end_short false = omega arith
 
-  becomes_short : (A : ℕ → Bool) (ks : List (Marked Bool)) (i : Instruction) → length (becomes long A ks p i) ≤ 15
+  pub becomes_short : (A : ℕ → Bool) (ks : List (Marked Bool)) (i : Instruction) → length (becomes long A ks p i) ≤ 15
   becomes_short A ks (Do op) = op_short (mask_at (secrets_of ks)) op
   becomes_short A ks (If a) = if_short (A a) (secrets_of ks) a
   becomes_short A [] Else = omega arith

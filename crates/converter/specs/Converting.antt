@@ -13,13 +13,16 @@ use Rattle.labels.specs.Sets.{sets, secret_tables}
 use Rattle.plan.specs.Planned.{plan_of}
 use Rattle.program.specs.Programs.{code_of}
 use Rattle.counting.specs.Counting.{most_steps}
-use Rattle.groups.specs.Groups.{lengths}
-use Rattle.conversion.specs.Conversion.{convert}
+use Rattle.conversion.specs.Sources.{result_by}
 use Rattle.conversion.specs.Refusing.{hidden_by, first_wrong}
+
+-- the smallest labels of a source: the secret registers on arriving at each place
+abbrev pub smallest_labels : Header → List Instruction → ℕ → ℕ → Bool
+smallest_labels h code = sets (plan_of h code)
 
 -- what the code of a source becomes, by its smallest labels
 abbrev pub result_of : Header → List Instruction → List Instruction
-result_of h code = convert (lengths h.tables) (sets (plan_of h code)) [] 0 code
+result_of h code = result_by (smallest_labels h code) h code
 
 -- the kind and the number of instructions are the result's, all else is the source's
 abbrev pub result_header : Header → ℕ → Header
@@ -27,7 +30,7 @@ result_header h n = record { kind = Converted; tables = h.tables; used = h.used;
 
 -- the first place of a source that cannot be converted, by its smallest labels
 abbrev pub place_refusal : Header → List Instruction → Bool → Option Refusal
-place_refusal h code hides = first_wrong (secret_tables h.tables) (hidden_by hides) (sets (plan_of h code)) [] 0 code
+place_refusal h code hides = first_wrong (secret_tables h.tables) (hidden_by hides) (smallest_labels h code) [] 0 code
 
 -- a result that has too many steps, and then one that a list of so many entries cannot take
 abbrev pub size_refusal : List Instruction → ℕ → Option Refusal

@@ -1,3 +1,5 @@
 pub mod Converting
-pub mod Theorems
+pub mod Straight
+pub mod Keeps
+pub mod AnyMaker
 pub mod Parts

@@ -5,10 +5,9 @@ use Rattle.program.specs.declared.header.Header.{Header}
 use Rattle.program.specs.declared.opening.Marked.{Marked}
 use Rattle.labels.specs.Kinds.{secrecy}
 use Rattle.labels.specs.Passes.{opens}
-use Rattle.labels.specs.Sets.{sets}
-use Rattle.plan.specs.Planned.{plan_of}
 use Rattle.groups.specs.Groups.{lengths}
 use Rattle.conversion.specs.Conversion.{becomes}
+use Rattle.converter.specs.Converting.{smallest_labels}
 
 -- of what instructions from place p on become
 abbrev pub part_lengths : (ℕ → ℕ) → (ℕ → ℕ → Bool) → List (Marked Bool) → ℕ → List Instruction → List ℕ
@@ -23,8 +22,8 @@ part_at long S ks p (i ∷ is) (suc k) = part_at long S (opens secrecy (S p) ks 
 
 -- of a source, by its smallest labels
 abbrev pub parts_of : Header → List Instruction → List ℕ
-parts_of h code = part_lengths (lengths h.tables) (sets (plan_of h code)) [] 0 code
+parts_of h code = part_lengths (lengths h.tables) (smallest_labels h code) [] 0 code
 
 -- what place k of a source becomes, by its smallest labels
 abbrev pub part_of : Header → List Instruction → ℕ → List Instruction
-part_of h code k = part_at (lengths h.tables) (sets (plan_of h code)) [] 0 code k
+part_of h code k = part_at (lengths h.tables) (smallest_labels h code) [] 0 code k

@@ -6,7 +6,9 @@ ghost use Rattle.program.specs.Refusals.{refused_by};
 ghost use Rattle.program.specs.Programs.{code_of};
 ghost use Rattle.counting.specs.Counting.{Countable};
 ghost use Rattle.converter.specs.Converting.{result_of, size_refusal, convert_refusal, Converts};
-ghost use Rattle.converter.specs.Theorems.{Straightens, KeepsWhat, OfAnyMaker};
+ghost use Rattle.converter.specs.Straight.{Straightens};
+ghost use Rattle.converter.specs.Keeps.{KeepsWhat};
+ghost use Rattle.converter.specs.AnyMaker.{OfAnyMaker};
 
 use crate::check::check;
 use crate::labelled::Labelled;

@@ -6,14 +6,11 @@ ghost use Rattle.bench.specs.Views.{view};
 ghost use Rattle.player.specs.Entries.{room_of, made_by, shown, noted};
 
 use bench::bench::Bench;
-use calls::{Answer, Call};
+use calls::{Answer, Call, MOST_VISITS};
 use machine::visit::{Choice, Visit};
 use memory::Memory;
 use program::refusal::Refusal;
 use std::alloc::{AllocError, Global};
-
-/// The most visits that any go makes.
-const MOST_VISITS: usize = 1_000_000;
 
 /// A visit that was not made yet.
 const UNVISITED: Visit = Visit {

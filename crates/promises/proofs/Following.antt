@@ -3,8 +3,7 @@ use Rattle.std.proofs.Common.{◌≡◌, ℕ, Bool, List, length, sym, ap, subst
 use Rattle.std.proofs.lemmas.List.{get_or_past}
 use Rattle.machine.specs.States.{State}
 use Rattle.machine.specs.Machine.{state_of, first}
-use Rattle.labels.specs.Sets.{sets}
-use Rattle.plan.specs.Planned.{plan_of}
+use Rattle.converter.specs.Converting.{smallest_labels}
 use Rattle.converter.proofs.Keeping.{tree_of}
 use Rattle.simulation.specs.Results.{FollowsRun}
 use Rattle.simulation.proofs.Results.{result_follows}
@@ -15,7 +14,7 @@ use Rattle.promises.specs.Kept.{Accepted, result_run, RunsFollow}
 
 -- the smallest labels of a source
 abbrev pub labels : Seated → ℕ → ℕ → Bool
-labels s = sets (plan_of s.header s.code)
+labels s = smallest_labels s.header s.code
 
 module _ {hides : Bool} (s : Seated) (ok : Accepted hides s) where
   module _ (entry cells : List ℕ) (low : length entry ≡ 16) where

@@ -9,7 +9,7 @@ use Rattle.calls.specs.declared.Call.TheVariants.{Seat, Put, Arg, Go, Look, Open
 use Rattle.calls.specs.declared.Answer.{Answer}
 use Rattle.calls.specs.declared.Answer.TheVariants.{Word, Ended}
 use Rattle.calls.specs.declared.Ending.{Ending}
-use Rattle.calls.specs.Benches.{Seated, or_blank, words, comes}
+use Rattle.calls.specs.Benches.{Seated, or_blank, words, comes, ending_of}
 use Rattle.calls.specs.Calls.{source_at, converted}
 
 pub record Plain : Type 0 where
@@ -29,15 +29,12 @@ first cells = plain None (replicate 16 0) cells None
 abbrev pub cell_of : Plain → ℕ → ℕ → ℕ
 cell_of p t i = first_cell (or_blank p.source).header.tables t + i
 
-abbrev pub ending_as : State → ℕ → Ending
-ending_as x fault = record { registers = words 16 x.registers; fault = fault }
-
 -- after a go. Where the source reaches its end, its cells and registers stand, and 0. Where it
 -- faults, those stand that a run z of the converted program leaves from the same start, and one more
 -- than the place of the fault.
 abbrev pub settled : Plain → Conf → State → Plain
-settled p (go q fs x) z = plain p.source p.entry (words (length p.cells) x.cells) (Some (ending_as x 0))
-settled p (stop q x) z = plain p.source p.entry (words (length p.cells) z.cells) (Some (ending_as z (suc q)))
+settled p (go q fs x) z = plain p.source p.entry (words (length p.cells) x.cells) (Some (ending_of x.registers 0))
+settled p (stop q x) z = plain p.source p.entry (words (length p.cells) z.cells) (Some (ending_of z.registers (suc q)))
 
 -- what an accepted call makes of it
 abbrev pub takes : Call → Plain → Plain

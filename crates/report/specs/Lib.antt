@@ -1,3 +1,4 @@
-pub mod Converted
 pub mod Bounds
+pub mod Converted
 pub mod Costs
+pub mod Ran

@@ -1,19 +1,52 @@
-// A run, in lines: every visit and every mark, and what the registers then hold.
-use machine::visit::Visit;
+// A run, in lines: each visit, the totals, and what the registers then hold.
+ghost use Rattle.std.specs.Prelude.{◌≡◌, Some};
+ghost use Rattle.report.specs.Ran.{choice_name, visit_text, fault_text, totals_text};
+
+use machine::visit::{Choice, Visit};
 use run::Outcome;
 use std::fmt;
 
-/// A visit: its place and the number of its choice.
+/// A visit: its place and the name of its choice.
 #[derive(Clone, Copy)]
 pub struct VisitLine {
     pub visit: Visit,
 }
 
+fn choice_name(choice: Choice) -> &'static str
+    ensures { result.now ≡ choice_name choice }
+{
+    match choice {
+        Choice::Onward => "onward",
+        Choice::Inward => "inward",
+        Choice::Past => "past",
+        Choice::Fault => "fault",
+    }
+}
+
 impl fmt::Display for VisitLine {
+    ghost output = { λ v. Some (visit_text v.visit) };
+
     fn fmt<W: fmt::Write>(&self, f: &mut fmt::Formatter<W>) -> fmt::Result {
         let place = self.visit.place;
-        let choice = self.visit.choice.number();
+        let choice = choice_name(self.visit.choice);
         write!(f, "visit {place} {choice}")
+    }
+}
+
+/// Whether there was a fault, and where.
+#[derive(Clone, Copy)]
+pub struct Faulted {
+    pub place: Option<u16>,
+}
+
+impl fmt::Display for Faulted {
+    ghost output = { λ f. Some (fault_text f.place) };
+
+    fn fmt<W: fmt::Write>(&self, f: &mut fmt::Formatter<W>) -> fmt::Result {
+        match self.place {
+            Some(place) => write!(f, "fault at {place}"),
+            None => f.write_str("no fault"),
+        }
     }
 }
 
@@ -24,14 +57,15 @@ pub struct Totals {
 }
 
 impl fmt::Display for Totals {
+    ghost output = { λ t. Some (totals_text t.outcome) };
+
     fn fmt<W: fmt::Write>(&self, f: &mut fmt::Formatter<W>) -> fmt::Result {
         let steps = self.outcome.steps;
         let marks = self.outcome.marks;
-        write!(f, "steps {steps}, marks {marks}")?;
-        match self.outcome.fault {
-            Some(place) => write!(f, ", fault at {place}"),
-            None => write!(f, ", no fault"),
-        }
+        let faulted = Faulted {
+            place: self.outcome.fault,
+        };
+        write!(f, "steps {steps}, marks {marks}, {faulted}")
     }
 }
 

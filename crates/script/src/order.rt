@@ -5,10 +5,7 @@ ghost use Rattle.script.specs.Orders.{asked_of, read_as, seat_of, put_of, arg_of
 use crate::numbers::{number, word};
 use crate::unread::Unread;
 use crate::words::split;
-use calls::Call;
-
-/// The most visits that any go makes.
-const MOST_VISITS: usize = 1_000_000;
+use calls::{Call, MOST_VISITS};
 
 /// What a line asks for: a call, or a seat of the image that a file holds.
 #[derive(Drop)]

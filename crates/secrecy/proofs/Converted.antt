@@ -2,13 +2,14 @@
 use Rattle.std.proofs.Common.{ℕ, suc, ◌+◌, Bool, true, false, refl, ◌∙◌}
 use Rattle.program.specs.Blocks.{Block, done, one, if_then, if_else, loop, fin}
 use Rattle.labels.specs.Kinds.{secrecy}
+use Rattle.labels.specs.Sets.{either}
 use Rattle.labels.specs.Rules.{Sub}
 use Rattle.groups.specs.Groups.{mask_at, else_group}
 use Rattle.conversion.specs.Trees.{FitBlock, ops, converted}
 use Rattle.conversion.specs.Labelling.{Labelled}
 use Rattle.secrecy.specs.Carried.{Carried}
 use Rattle.secrecy.specs.Converted.{wide, ConvertedCarries}
-use Rattle.secrecy.proofs.Public.{sub_refl, joined, joined_sub, sub_left, sub_right}
+use Rattle.secrecy.proofs.Public.{sub_refl, either_sub, sub_left, sub_right}
 use Rattle.secrecy.proofs.Carried.{weakens}
 use Rattle.secrecy.proofs.Groups.{wide_low, wide_sub, op_carries, if_carries, else_carries}
 
@@ -71,15 +72,15 @@ module _ (secret hidden : ℕ → Bool) (S : ℕ → ℕ → Bool) (long : ℕ �
       )
   carries (loop a n t b) s p k B f l c =
       let q = fin t (suc p) in
-      let C = joined (S p) (S q) in
+      let C = either (S p) (S q) in
       let rest = converted long s b (suc q) k in
       let k1 = converted long s t (suc p) done in (
         wide_low (S p) a f.0 ∙ l.0,
         (
           wide C,
           wide_sub (S p) C (sub_left (S p) (S q)),
-          less C (S (suc p)) (wide C) k1 (joined_sub (S p) (S q) (S (suc p)) l.1 l.3) (carries t s (suc p) done (wide C) f.1 l.5 (wide_sub (S q) C (sub_right (S p) (S q)))),
-          less C (S (suc q)) B rest (joined_sub (S p) (S q) (S (suc q)) l.2 l.4) (carries b s (suc q) k B f.2 l.6 c),
+          less C (S (suc p)) (wide C) k1 (either_sub (S p) (S q) (S (suc p)) l.1 l.3) (carries t s (suc p) done (wide C) f.1 l.5 (wide_sub (S q) C (sub_right (S p) (S q)))),
+          less C (S (suc q)) B rest (either_sub (S p) (S q) (S (suc q)) l.2 l.4) (carries b s (suc q) k B f.2 l.6 c),
         ),
       )
 

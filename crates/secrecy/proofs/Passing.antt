@@ -3,13 +3,11 @@ use Rattle.std.proofs.Common.{◌≡◌, ℕ, Bool, true, false, cond, not, ◌&
 use Rattle.instructions.specs.declared.Op.TheVariants.{Load, Store}
 use Rattle.program.specs.declared.refusal.Reason.{Reason}
 use Rattle.program.specs.declared.refusal.Reason.TheVariants.{SecretIndex, PublicStore}
+use Rattle.program.proofs.Refusals.{no_some}
 use Rattle.conversion.specs.Refusing.{wrong_op}
 
-none_not_some : (x : Reason) → ◌≡◌ {A = Option Reason} (Some x) None → ⊥
-none_not_some x e = cc
-
 passes : (c : Bool) (x : Reason) (o : Option Reason) → cond c (Some x) o ≡ None → (c ≡ false) × (o ≡ None)
-passes true x o e = absurd (none_not_some x e)
+passes true x o e = absurd (no_some e)
 passes false x o e = (refl, e)
 
 passing : (c : Bool) (x : Reason) (o : Option Reason) → c ≡ false → o ≡ None → cond c (Some x) o ≡ None

@@ -2,6 +2,7 @@
 use Rattle.std.proofs.Common.{◌≡◌, ℕ, Bool, true, false, cond, ◌||◌, ◌==◌, refl, arith}
 use Rattle.std.proofs.lemmas.Bool.{or_from, or_parts}
 use Rattle.labels.specs.Kinds.{secrecy}
+use Rattle.labels.specs.Sets.{either}
 use Rattle.labels.specs.Rules.{Sub, put}
 
 below : (a b : Bool) → (a || b) ≡ b → b ≡ false → a ≡ false
@@ -28,18 +29,14 @@ sub_refl A = sub A A (λ r e. e)
 pub sub_trans : (A B C : ℕ → Bool) → Sub secrecy A B → Sub secrecy B C → Sub secrecy A C
 sub_trans A B C f g = sub A C (λ r e. publics A B f r (publics B C g r e))
 
--- what is secret in either
-abbrev pub joined : (ℕ → Bool) → (ℕ → Bool) → ℕ → Bool
-joined A B r = A r || B r
+pub either_sub : (A B C : ℕ → Bool) → Sub secrecy A C → Sub secrecy B C → Sub secrecy (either A B) C
+either_sub A B C f g = sub (either A B) C (λ r e. or_from (A r) (B r) (publics A C f r e) (publics B C g r e))
 
-pub joined_sub : (A B C : ℕ → Bool) → Sub secrecy A C → Sub secrecy B C → Sub secrecy (joined A B) C
-joined_sub A B C f g = sub (joined A B) C (λ r e. or_from (A r) (B r) (publics A C f r e) (publics B C g r e))
+pub sub_left : (A B : ℕ → Bool) → Sub secrecy A (either A B)
+sub_left A B = sub A (either A B) (λ r e. (or_parts (A r) (B r) e).0)
 
-pub sub_left : (A B : ℕ → Bool) → Sub secrecy A (joined A B)
-sub_left A B = sub A (joined A B) (λ r e. (or_parts (A r) (B r) e).0)
-
-pub sub_right : (A B : ℕ → Bool) → Sub secrecy B (joined A B)
-sub_right A B = sub B (joined A B) (λ r e. (or_parts (A r) (B r) e).1)
+pub sub_right : (A B : ℕ → Bool) → Sub secrecy B (either A B)
+sub_right A B = sub B (either A B) (λ r e. (or_parts (A r) (B r) e).1)
 
 -- a case that keeps what holds of both
 pub cond_public : (c a b x y : Bool) → (x ≡ false → a ≡ false) → (y ≡ false → b ≡ false) → cond c x y ≡ false → cond c a b ≡ false

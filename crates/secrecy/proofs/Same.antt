@@ -9,7 +9,7 @@ use Rattle.machine.specs.States.{changed}
 use Rattle.machine.specs.Machine.{if_not0}
 use Rattle.machine.specs.Words.{calc, turned, value_of}
 
--- all_secret has what it is given where the test is passed, and both have what they had elsewhere
+-- two registers get the same where the test is passed, and stay the same elsewhere
 cond_same : (c a b : Bool) (u v w z : ℕ) → (a ≡ false → u ≡ v) → (b ≡ false → w ≡ z) → cond c a b ≡ false → cond c u w ≡ cond c v z
 cond_same true a b u v w z f g e = f e
 cond_same false a b u v w z f g e = g e

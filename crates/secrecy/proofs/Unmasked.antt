@@ -2,11 +2,12 @@
 use Rattle.std.proofs.Common.{ℕ, suc, Bool, true, false, true≢false}
 use Rattle.program.specs.Blocks.{Block, done, one, if_then, if_else, loop, fin}
 use Rattle.labels.specs.Kinds.{secrecy}
+use Rattle.labels.specs.Sets.{either}
 use Rattle.labels.specs.Rules.{Sub, leaves}
 use Rattle.conversion.specs.Labelling.{Labelled}
 use Rattle.secrecy.specs.Carried.{Carried}
 use Rattle.secrecy.specs.Unmasked.{Unmasked, UnmaskedCarries}
-use Rattle.secrecy.proofs.Public.{sub_refl, joined, joined_sub, sub_left, sub_right}
+use Rattle.secrecy.proofs.Public.{sub_refl, either_sub, sub_left, sub_right}
 use Rattle.secrecy.proofs.Carried.{weakens}
 
 module _ (secret hidden : ℕ → Bool) (S : ℕ → ℕ → Bool) where
@@ -47,13 +48,13 @@ module _ (secret hidden : ℕ → Bool) (S : ℕ → ℕ → Bool) where
       )
   carries (loop a n t b) p u l =
       let q = fin t (suc p) in
-      let C = joined (S p) (S q) in (
+      let C = either (S p) (S q) in (
         l.0,
         (
           C,
           sub_left (S p) (S q),
-          less C (S (suc p)) C t (joined_sub (S p) (S q) (S (suc p)) l.1 l.3) (more (S (suc p)) (S q) C t (sub_right (S p) (S q)) (carries t (suc p) u.0 l.5)),
-          less C (S (suc q)) (S (fin b (suc q))) b (joined_sub (S p) (S q) (S (suc q)) l.2 l.4) (carries b (suc q) u.1 l.6),
+          less C (S (suc p)) C t (either_sub (S p) (S q) (S (suc p)) l.1 l.3) (more (S (suc p)) (S q) C t (sub_right (S p) (S q)) (carries t (suc p) u.0 l.5)),
+          less C (S (suc q)) (S (fin b (suc q))) b (either_sub (S p) (S q) (S (suc q)) l.2 l.4) (carries b (suc q) u.1 l.6),
         ),
       )
 

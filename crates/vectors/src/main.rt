@@ -3,8 +3,8 @@
 
 use anyhow::{bail, ensure};
 use bench::bench::Bench;
-use cases::case;
-use cases::named::Named;
+use cases::case_file;
+use cases::file_report::FileReport;
 use layered::pile::Pile;
 use std::alloc::{AllocError, Global};
 use std::path::Path;
@@ -26,7 +26,7 @@ fn report_on(heap: Global, room: &mut Room, text: &str) -> Result<Report, AllocE
     } else if has_blocks(text, "bench") {
         blocks::run::<Bench<Pile>>(heap, text)
     } else {
-        case::run(heap, room, text)
+        case_file::run(heap, room, text)
     }
 }
 
@@ -36,7 +36,7 @@ fn run_file(rt: &HostRuntime, room: &mut Room, path: &str) -> anyhow::Result<Tal
     };
     let report = report_on(rt.alloc(), room, text.as_str())?;
     let name = Path::new(path).file_stem().unwrap_or(path);
-    rt.print(Named {
+    rt.print(FileReport {
         name,
         report: &report,
     })?;

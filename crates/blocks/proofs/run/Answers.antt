@@ -4,7 +4,7 @@ use Rattle.std.proofs.lemmas.List.{at_drop_all, length_push}
 use Rattle.std.specs.Str.Lines.{lines}
 use Rattle.counted.specs.Counted.{Counted}
 use Rattle.cases.proofs.Numbered.{numbered_turn, numbered_end}
-use Rattle.blocks.specs.Numbers.{closed_at, blocks_among}
+use Rattle.blocks.specs.Counts.{closed_at, blocks_among}
 use Rattle.blocks.proofs.Steps.{blocks_more}
 use Rattle.blocks.proofs.run.Goals as goal
 

@@ -1,7 +1,7 @@
 use Rattle.std.proofs.Common.{◌≡◌, ℕ, ◌+◌, false, length, drop, is_some}
 use Rattle.std.specs.Str.Lines.{lines}
 use Rattle.counted.specs.Counted.{Counted}
-use Rattle.blocks.specs.Numbers.{blocks_among}
+use Rattle.blocks.specs.Counts.{blocks_among}
 use Rattle.blocks.proofs.run.Given as goal
 
 abbrev pub invariant-loop-index : goal.invariant-loop-index

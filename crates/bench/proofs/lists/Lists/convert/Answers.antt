@@ -1,5 +1,5 @@
 use Rattle.std.proofs.Common.{length, vec_items, sym, ap, ◌∙◌}
-use Rattle.bench.proofs.Rooms.{result_fits}
+use Rattle.bench.proofs.Longest.{result_fits}
 use Rattle.bench.proofs.lists.Lists.convert.Goals as goal
 
 pub returns-in-Err-clause-refusal : goal.returns-in-Err-clause-refusal

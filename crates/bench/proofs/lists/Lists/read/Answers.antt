@@ -1,6 +1,6 @@
 use Rattle.std.proofs.Common.{length, vec_items, sym, ap, ◌∙◌, arith}
 use Rattle.header.proofs.Rewritten.{Bytes}
-use Rattle.bench.proofs.Rooms.{image_fits, read_seated, read_long}
+use Rattle.bench.proofs.Longest.{image_fits, read_seated, read_long}
 use Rattle.bench.proofs.lists.Lists.read.Goals as goal
 
 pub returns-in-Ok-clause-program : goal.returns-in-Ok-clause-program

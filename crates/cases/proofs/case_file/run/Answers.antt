@@ -5,9 +5,9 @@ use Rattle.std.proofs.lemmas.List.Sums.{sum_by_more}
 use Rattle.std.specs.List.{sum_by}
 use Rattle.std.specs.Str.Lines.{lines}
 use Rattle.counted.specs.Counted.{Counted}
-use Rattle.cases.specs.Numbers.{case_count}
+use Rattle.cases.specs.Counts.{case_count}
 use Rattle.cases.proofs.Numbered.{numbered_turn, numbered_end}
-use Rattle.cases.proofs.case.run.Goals as goal
+use Rattle.cases.proofs.case_file.run.Goals as goal
 
 pub loop-index-preserved : goal.loop-index-preserved
 loop-index-preserved c =

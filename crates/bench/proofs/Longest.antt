@@ -1,10 +1,9 @@
 -- Lists of 3,000 entries have room for every image, and for what every source becomes.
-use Rattle.std.proofs.Common.{◌≡◌, ℕ, zero, suc, ◌*◌, ◌≤◌, Bool, leb, List, [], ◌∷◌, ◌++◌, length, get_or, take, drop, replicate, Some, None, Option, vec_items, refl, ap, ◌∙◌, arith, length-append, length-drop}
+use Rattle.std.proofs.Common.{◌≡◌, ℕ, suc, ◌*◌, ◌≤◌, Bool, leb, List, [], ◌∷◌, ◌++◌, length, take, drop, Some, None, Option, vec_items, refl, ap, ◌∙◌, arith, length-append, length-drop}
 use Rattle.std.proofs.lemmas.Bool.{le-leb}
 use Rattle.std.proofs.lemmas.List.{take_at}
 use Rattle.std.proofs.lemmas.List.FromFn.{length-map-range_with_len}
 use Rattle.instructions.specs.declared.Instruction.{Instruction}
-use Rattle.instructions.specs.declared.Instruction.TheVariants.{Again}
 use Rattle.program.specs.declared.header.Kind.{Kind}
 use Rattle.program.specs.declared.header.Kind.TheVariants.{Source, Converted}
 use Rattle.program.specs.declared.opening.Marked.{Marked}
@@ -28,7 +27,7 @@ use Rattle.image.proofs.Answering.{header_is_good}
 use Rattle.conversion.specs.Conversion.{becomes, convert}
 use Rattle.converter.specs.Converting.{result_of, place_refusal, convert_refusal}
 use Rattle.converter.proofs.Results.{source_short}
-use Rattle.converter.proofs.Short.{longer}
+use Rattle.converter.proofs.Short.{becomes_short}
 use Rattle.calls.specs.Benches.{seat}
 use Rattle.calls.specs.Calls.{source_at, unconverted}
 use Rattle.bench.specs.Seats.{program_seated}
@@ -64,20 +63,12 @@ module _ (bs : List ℕ) (p : Program) (before : List Instruction) (header : p.h
       let h = ap (λ x. x.count) header in
       omega (arith, l, h, code_short p, code_long, length-append (code_at bs) (drop (header_at bs).count before), length-drop (header_at bs).count before)
 
--- the instruction at a place
-stands : (p : ℕ) (i : Instruction) → i ≡ get_or (replicate p Again ++ i ∷ []) p Again
-stands zero i = refl
-stands (suc p) i = stands p i
-
-becomes_short : (long : ℕ → ℕ) (A : ℕ → Bool) (ks : List (Marked Bool)) (p : ℕ) (i : Instruction) → length (becomes long A ks p i) ≤ 15
-becomes_short long A ks p i = longer long p A ks (replicate p Again ++ i ∷ []) i [] (becomes long A ks p i) (stands p i) refl
-
 convert_short : (long : ℕ → ℕ) (S : ℕ → ℕ → Bool) (ks : List (Marked Bool)) (p : ℕ) (is : List Instruction) → length (convert long S ks p is) ≤ 15 * length is
 convert_short long S ks p [] = omega arith
 convert_short long S ks p (i ∷ is) =
     let now = becomes long (S p) ks p i in
     let later = convert long S (opens secrecy (S p) ks p i) (suc p) is in
-    omega (arith, length-append now later, becomes_short long (S p) ks p i, convert_short long S (opens secrecy (S p) ks p i) (suc p) is)
+    omega (arith, length-append now later, becomes_short long p (S p) ks i, convert_short long S (opens secrecy (S p) ks p i) (suc p) is)
 
 module _ (s : Program) where
   result_short : s.header.kind ≡ Source → length (result_of s.header (code_of s)) ≤ 3000

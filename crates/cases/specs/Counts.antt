@@ -3,7 +3,7 @@ use Rattle.std.specs.Prelude.{ℕ, cond, List, length, nat_lt}
 use Rattle.std.specs.List.{sum_by}
 use Rattle.std.specs.Str.Lines.{lines}
 
--- a line is one, unless it is blank
+-- a line is one, unless it is empty
 abbrev pub case_count : List ℕ → ℕ
 case_count line = cond (nat_lt 0 (length line)) 1 0
 

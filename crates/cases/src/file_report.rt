@@ -4,12 +4,12 @@ use tally::report::Report;
 
 /// A report under the file's name, to be shown: the tally, and each note on a line.
 #[derive(Clone, Copy)]
-pub struct Named<'a> {
+pub struct FileReport<'a> {
     pub name: &'a str,
     pub report: &'a Report,
 }
 
-impl fmt::Display for Named<'_> {
+impl fmt::Display for FileReport<'_> {
     fn fmt<W: fmt::Write>(&self, f: &mut fmt::Formatter<W>) -> fmt::Result {
         let name = self.name;
         let tally = self.report.tally;

@@ -1,4 +1,4 @@
-// A bench over a pile.
+// A bench over the memory that a block names.
 ghost use Rattle.std.specs.Prelude.{codes};
 
 use crate::bench_call::call_of;
