@@ -44,7 +44,7 @@ def bugs():
         if line.strip():
             key, _, value = line.partition(": ")
             block.setdefault("line", number)
-            block[key] = value
+            block[key] = f"{block[key]}\n{value}" if key in block else value
         elif block:
             found.append(Bug(**block))
             block = {}

@@ -43,7 +43,7 @@ pub enum Reason {
     NoSuchTable = 23,
     /// An index that is not below the length of its table.
     IndexTooLarge = 24,
-    /// Most marks above what is free.
+    /// The marks that may be left are above what is free.
     NoFreeMarks = 25,
     /// A register above 15.
     NoSuchRegister = 26,

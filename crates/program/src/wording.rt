@@ -32,7 +32,7 @@ impl fmt::Display for Reason {
             Reason::NoneSeated => "no program is seated",
             Reason::NoSuchTable => "the program has no such table",
             Reason::IndexTooLarge => "the index is not below the length of the table",
-            Reason::NoFreeMarks => "the most marks are above what is free",
+            Reason::NoFreeMarks => "more marks may be left than are free",
             Reason::NoSuchRegister => "no entry register has that number",
             Reason::SecretTable => "the table is secret",
             Reason::NoRoomForVisits => "the visit list is shorter than the most steps",
