@@ -2,39 +2,17 @@
 #![tactic(auto)]
 
 use anyhow::{bail, ensure};
-use bench::bench::Bench;
-use cases::case_file;
 use cases::file_report::FileReport;
-use layered::pile::Pile;
-use std::alloc::{AllocError, Global};
 use std::path::Path;
 use std::{env, fs};
 use tally::Tally;
-use tally::report::Report;
 use trials::room::Room;
-
-// Whether the cases of a text are blocks that begin with a word.
-fn has_blocks(text: &str, word: &str) -> bool {
-    text.lines()
-        .filter_map(|line| line.strip_prefix(word))
-        .any(|rest| rest.starts_with(' '))
-}
-
-fn report_on(heap: Global, room: &mut Room, text: &str) -> Result<Report, AllocError> {
-    if has_blocks(text, "memory") {
-        blocks::run::<Pile>(heap, text)
-    } else if has_blocks(text, "bench") {
-        blocks::run::<Bench<Pile>>(heap, text)
-    } else {
-        case_file::run(heap, room, text)
-    }
-}
 
 fn run_file(rt: &HostRuntime, room: &mut Room, path: &str) -> anyhow::Result<Tally> {
     let Ok(text) = fs::read_to_string(rt, path) else {
         bail!("{path} cannot be read");
     };
-    let report = report_on(rt.alloc(), room, text.as_str())?;
+    let report = case_files::run(rt.alloc(), room, text.as_str())?;
     let name = Path::new(path).file_stem().unwrap_or(path);
     rt.print(FileReport {
         name,

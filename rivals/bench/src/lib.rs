@@ -9,6 +9,7 @@ pub mod image;
 pub mod labels;
 pub mod machine;
 pub mod make;
+pub mod making;
 pub mod memory;
 pub mod most;
 pub mod program;
