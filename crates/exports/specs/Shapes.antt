@@ -5,8 +5,8 @@ use Rattle.layered.specs.declared.chosen.Chosen.{Chosen}
 use Rattle.layered.specs.declared.chosen.Chosen.TheVariants.{Scan, Line}
 use Rattle.layered.specs.declared.pile.Layers.{Layers}
 use Rattle.layered.specs.Piles.{piled}
-use Rattle.makes.specs.declared.make.Kind.{Kind}
-use Rattle.makes.specs.declared.make.Kind.TheVariants.{Flat, Banked}
+use Rattle.makes.specs.declared.make.LeafKind.{LeafKind}
+use Rattle.makes.specs.declared.make.LeafKind.TheVariants.{Flat, Banked}
 use Rattle.makes.specs.Makes.{begins}
 use Rattle.exports.specs.declared.running.Shape.{Shape}
 
@@ -17,7 +17,7 @@ over words before = take (length before) words ++ drop (length words) before
 abbrev pub chosen : ℕ → Option Chosen
 chosen n = cond (nat_eq n 0) None (cond (nat_eq n 1) (Some Scan) (Some (Line (n - 2))))
 
-abbrev pub kind_of : Bool → Kind
+abbrev pub kind_of : Bool → LeafKind
 kind_of true = Banked
 kind_of false = Flat
 

@@ -12,7 +12,7 @@ use layered::leaves::into_cells;
 use layered::pile::{Layers, Pile, into_leaf};
 use machine::visit::{Choice, Visit};
 use makes::built;
-use makes::make::{Kind, MOST, Make};
+use makes::make::{LeafKind, MOST, Make};
 use memory::Memory;
 use program::program::Program;
 use run::{Outcome, run};
@@ -58,10 +58,14 @@ fn chosen(layer: u8) -> Option<Chosen>
     }
 }
 
-fn kind(banked: bool) -> Kind
+fn kind(banked: bool) -> LeafKind
     ensures { result ≡ kind_of banked }
 {
-    if banked { Kind::Banked } else { Kind::Flat }
+    if banked {
+        LeafKind::Banked
+    } else {
+        LeafKind::Flat
+    }
 }
 
 impl Shape {
