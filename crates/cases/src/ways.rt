@@ -58,9 +58,17 @@ impl Case<'_> {
         Ok(answer.to_string(heap)?)
     }
 
+    // The case's image, `-` for no bytes.
+    fn image(self, heap: Global) -> Result<Vec<u8>, CaseError> {
+        match self.value("img")? {
+            "-" => Ok(Vec::new(heap)),
+            text => Ok(hexadecimal::decode(heap, text.as_bytes())?),
+        }
+    }
+
     // The program of the case's image, unless reading refuses it.
     fn program_of(self, heap: Global) -> Result<Program, CaseError> {
-        let image = hexadecimal::decode(heap, self.value("img")?.as_bytes())?;
+        let image = self.image(heap)?;
         let list = vec![in heap; Instruction::Again; usize::from(Kind::Converted.longest())]?;
         Ok(reader::read(&image, list)?)
     }
