@@ -1,7 +1,7 @@
 // The converter: a source becomes a program without secret ifs, or is refused.
 #![tactic(auto)]
 
-ghost use Rattle.std.specs.Prelude.{◌≡◌, ℕ, ◌≤◌, ◌++◌, length, drop, IfOk};
+ghost use Rattle.std.specs.Prelude.{◌≡◌, ℕ, ◌≤◌, [], ◌++◌, length, drop, IfOk};
 ghost use Rattle.program.specs.Refusals.{refused_by};
 ghost use Rattle.program.specs.Programs.{code_of};
 ghost use Rattle.counting.specs.Counting.{Countable};
@@ -45,10 +45,12 @@ fn size_fits(code: &[Instruction], room: usize) -> Result<(), Refusal>
     Ok(())
 }
 
-// Converts into an own list, since what is refused changes none that was handed in.
-fn attempt(source: &Program, hides: bool, room: usize) -> Result<Output, Refusal>
+// Converts into an own list, since what is refused changes none that was handed in. The list is lent, since
+// it is long, and to move it takes longer than to convert.
+fn attempt(source: &Program, hides: bool, room: usize, out: &mut Output) -> Result<(), Refusal>
+    requires { out.old ≡ [] }
     ensures answer { refused_by result ≡ convert_refusal source.now.header (code_of source.now) hides room }
-    ensures result { IfOk result (λ out. out ≡ result_of source.now.header (code_of source.now)) }
+    ensures result { IfOk result (λ _. out.new ≡ result_of source.now.header (code_of source.now)) }
 {
     // A source has at most 200 places, and nothing is allocated.
     let mut sets = [0u16; 201];
@@ -60,9 +62,8 @@ fn attempt(source: &Program, hides: bool, room: usize) -> Result<Output, Refusal
         plan: &sets[..usize::from(header.count) + 1],
     };
     check(&labelled, hides)?;
-    let out = convert_all(&labelled);
-    size_fits(out.as_slice(), room)?;
-    Ok(out)
+    convert_all(out, &labelled);
+    size_fits(out.as_slice(), room)
 }
 
 fn fill(list: &mut Vec<Instruction>, code: &[Instruction])
@@ -85,10 +86,11 @@ pub fn convert(
     ensures keeps { KeepsWhat source.now hides result }
     ensures any { OfAnyMaker }
 {
-    let out = match attempt(source, hides, list.len()) {
-        Ok(out) => out,
+    let mut out = Output::new();
+    match attempt(source, hides, list.len(), &mut out) {
+        Ok(()) => {}
         Err(refusal) => return Err(HandedBack { refusal, list }),
-    };
+    }
     let code = out.as_slice();
     fill(&mut list, code);
     let header = Header {

@@ -84,15 +84,14 @@ pub(crate) fn convert_one(
 }
 
 /// Writes what every place becomes.
-pub fn convert_all(source: &Labelled) -> Output
-    ensures { result ≡ convert (lengths source.now.tables.now) (sets source.now.plan.now) [] 0 source.now.code.now }
+pub fn convert_all(out: &mut Output, source: &Labelled)
+    requires { out.old ≡ [] }
+    ensures { out.new ≡ convert (lengths source.now.tables.now) (sets source.now.plan.now) [] 0 source.now.code.now }
 {
-    let mut out = Output::new();
     let mut masks = Masks::new();
     for (place, instruction) in source.code.iter().enumerate() {
-        convert_one(&mut out, source, &masks, place, *instruction);
+        convert_one(out, source, &masks, place, *instruction);
         // A plan has one entry more than the code, so it is read by the place.
         masks.pass(*instruction, place, source.plan[place]);
     }
-    out
 }

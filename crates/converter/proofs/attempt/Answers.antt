@@ -31,5 +31,5 @@ size_fits-requires c =
     let el = plan_there m kind _ _ c.plan.new.list n c.in_ok-plan.ensures.list.0 in
     let eh = c.header-header.ensures in
     let ec = c.code.ensures in
-    let w = c.as_slice.ensures.value ∙ c.convert_all-out.ensures ∙ (λ t. convert (lengths (eh t).tables) (sets (el t)) [] 0 (ec t)) in
+    let w = c.as_slice.ensures.value ∙ c.convert_all.ensures ∙ (λ t. convert (lengths (eh t).tables) (sets (el t)) [] 0 (ec t)) in
     subst Countable (sym w) (result_countable m kind)

@@ -31,7 +31,7 @@ pub loop-place-init : goal.loop-place-init
 loop-place-init c =
     let s = c.args.source.now in
     let e = c.new-masks.ensures in
-    let f = c.new-out.ensures in (
+    let f = c.requires in (
       (λ t. f t ++ convert (lengths s.tables.now) (sets s.plan.now) (e t) 0 s.code.now),
       ap unmarked e ∙ around_none s.code.now,
       omega (arith, ap length f),
