@@ -1,5 +1,5 @@
 -- What is refused of an image, by the program that was read, and what writing a program answers.
-use Rattle.std.proofs.Common.{◌≡◌, ℕ, ◌≤◌, Bool, true, false, cond, ltb, leb, List, ◌++◌, length, take, drop, Some, None, Ok, Err, vec_items, Option, Result, is_ok, sym, refl, ap, ◌∙◌, arith, length-append}
+use Rattle.std.proofs.Common.{◌≡◌, ℕ, Bool, true, false, cond, ltb, leb, List, ◌++◌, length, take, drop, Some, None, Ok, Err, vec_items, Option, Result, is_ok, sym, refl, ap, ◌∙◌, arith, length-append}
 use Rattle.std.proofs.lemmas.List.{take_at, length-take-le}
 use Rattle.instructions.specs.declared.Instruction.{Instruction}
 use Rattle.program.specs.declared.program.Program.{Program}

@@ -1,7 +1,6 @@
 -- The cells of a pile, and a run of an image on one.
-use Rattle.std.proofs.Common.{◌≡◌, ℕ, List, length, replicate, Some, None, Ok, Err, Option, sym, refl, ap, subst, ◌∙◌}
+use Rattle.std.proofs.Common.{◌≡◌, ℕ, List, length, replicate, Some, None, Ok, Option, sym, refl, subst, ◌∙◌}
 use Rattle.program.specs.declared.program.Program.{Program}
-use Rattle.program.specs.declared.refusal.Refusal.{Refusal}
 use Rattle.program.specs.Programs.{code_of}
 use Rattle.program.specs.Refusals.{or_else}
 use Rattle.header.specs.Layout.{header_at}

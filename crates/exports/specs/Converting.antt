@@ -1,6 +1,5 @@
 -- What an image becomes.
-use Rattle.std.specs.Prelude.{◌≡◌, ℕ, Bool, List, None, Option, Result}
-use Rattle.program.specs.declared.program.Program.{Program}
+use Rattle.std.specs.Prelude.{ℕ, Bool, List, Option, Result}
 use Rattle.program.specs.declared.refusal.Refusal.{Refusal}
 use Rattle.program.specs.Refusals.{or_else}
 use Rattle.image.specs.Images.{image_refusal, image_of}
