@@ -165,7 +165,7 @@ fn running(steps: usize, cells: usize, layers: &str) -> (usize, Rates) {
 fn shown(rates: &Rates, each: f64, unit: f64) -> String {
     let rate = rates.our * each;
     format!(
-        "{:.0} | {:.1} | {:.2} |",
+        "{:.0} | {:.2} | {:.2} |",
         rate,
         unit / rates.our,
         rates.ratio
