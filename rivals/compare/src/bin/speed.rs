@@ -124,8 +124,8 @@ fn converting(images: &[Vec<u8>]) -> Rates {
     rates(rival, our)
 }
 
-/// The rate in steps, of a program that makes about so many, on a memory of so many cells.
-fn running(steps: usize, cells: usize, layers: &str) -> Rates {
+/// How many steps a program makes that is to make about so many, and the rates of its runs, at a table of so many cells.
+fn running(steps: usize, cells: usize, layers: &str) -> (usize, Rates) {
     let image = samples::looping(steps, cells);
     let source = program(&image);
     let named = |list: usize| Make::named(&format!("flat:{cells}:{list}{layers}")).expect("a name");
@@ -147,6 +147,7 @@ fn running(steps: usize, cells: usize, layers: &str) -> Rates {
     };
     let mut words = vec![0; cells];
     let our = |times| {
+        words.fill(0);
         let ran = ours::run(
             black_box(&image),
             &entry,
@@ -157,54 +158,68 @@ fn running(steps: usize, cells: usize, layers: &str) -> Rates {
         );
         assert_eq!(ran.map(|ran| ran.steps), Ok(made.steps));
     };
-    let rates = rates(rival, our);
-    Rates {
-        our: rates.our * made.steps as f64,
-        ..rates
-    }
+    (made.steps, rates(rival, our))
+}
+
+/// How fast something is, how long one of it takes, and the ratio, as the last columns of a table.
+fn shown(rates: &Rates, each: f64, unit: f64) -> String {
+    let rate = rates.our * each;
+    format!(
+        "{:.0} | {:.2} | {:.2} |",
+        rate,
+        unit / rates.our,
+        rates.ratio
+    )
 }
 
 fn of_images() {
-    println!("| instructions | read, images/s | ratio | plan, images/s | ratio | convert, images/s | ratio |");
-    println!("| ---: | ---: | ---: | ---: | ---: | ---: | ---: |");
-    for length in LENGTHS {
-        let images = samples::sources(&mut Random::new(1), length, IMAGES);
-        let all = [reading(&images), planning(&images), converting(&images)];
-        let shown =
-            all.map(|rates| format!("{:.0} | {:.2}", rates.our * IMAGES as f64, rates.ratio));
-        println!("| {length} | {} |", shown.join(" | "));
+    println!("| work | instructions | images/s | µs an image | ratio |");
+    println!("| --- | ---: | ---: | ---: | ---: |");
+    let works: [(&str, fn(&[Vec<u8>]) -> Rates); 3] = [
+        ("read", reading),
+        ("plan", planning),
+        ("convert", converting),
+    ];
+    for (name, work) in works {
+        for length in LENGTHS {
+            let images = samples::sources(&mut Random::new(1), length, IMAGES);
+            let rates = work(&images);
+            let each = IMAGES as f64;
+            println!("| {name} | {length} | {}", shown(&rates, each, 1e6 / each));
+        }
     }
 }
 
+/// Steps and cells, on a flat memory and under a full scan. The marks of a run have to be at most 1,000,000.
+const FLAT: [(usize, usize); 7] = [
+    (1_000, 16),
+    (10_000, 16),
+    (100_000, 16),
+    (1_000_000, 16),
+    (100_000, 4),
+    (100_000, 128),
+    (100_000, 1_024),
+];
+const SCANS: [(usize, usize); 9] = [
+    (1_000, 4),
+    (10_000, 4),
+    (100_000, 4),
+    (1_000_000, 4),
+    (10_000, 16),
+    (10_000, 64),
+    (10_000, 256),
+    (1_000, 256),
+    (1_000, 1_024),
+];
+
 fn of_runs() {
-    const FLAT: [(usize, usize); 7] = [
-        (1_000, 16),
-        (10_000, 16),
-        (100_000, 16),
-        (1_000_000, 16),
-        (100_000, 256),
-        (100_000, 1_024),
-        (1_000_000, 1_024),
-    ];
-    const SCANS: [(usize, usize); 7] = [
-        (1_000, 4),
-        (10_000, 4),
-        (100_000, 4),
-        (1_000_000, 4),
-        (100_000, 64),
-        (10_000, 256),
-        (1_000, 1_024),
-    ];
-    println!("| memory | steps | cells | million steps/s | ratio |");
-    println!("| --- | ---: | ---: | ---: | ---: |");
-    for (name, layers, samples) in [("flat", "", FLAT), ("full scan", "+scan", SCANS)] {
-        for (steps, cells) in samples {
-            let rates = running(steps, cells, layers);
-            println!(
-                "| {name} | {steps} | {cells} | {:.2} | {:.2} |",
-                rates.our / 1e6,
-                rates.ratio
-            );
+    println!("| memory | steps | cells | steps/s | µs a run | ratio |");
+    println!("| --- | ---: | ---: | ---: | ---: | ---: |");
+    for (name, layers, samples) in [("flat", "", &FLAT[..]), ("full scan", "+scan", &SCANS[..])] {
+        for &(steps, cells) in samples {
+            let (made, rates) = running(steps, cells, layers);
+            let columns = shown(&rates, made as f64, 1e6);
+            println!("| {name} | {made} | {cells} | {columns}");
         }
     }
 }
