@@ -1,5 +1,5 @@
 -- Accepted calls that differ in secret words only keep two benches agreeing.
-use Rattle.std.proofs.Common.{◌≡◌, ℕ, ◌+◌, ◌<◌, false, not, ltb, List, [], ◌∷◌, ◌++◌, length, set, Some, None, vec_items, Option, sym, refl, ap, ◌∙◌, length-set}
+use Rattle.std.proofs.Common.{◌≡◌, ℕ, ◌+◌, ◌<◌, false, not, ltb, List, [], ◌∷◌, ◌++◌, length, set, Some, None, vec_items, Option, is_none, sym, refl, ap, ◌∙◌, length-set}
 use Rattle.std.proofs.lemmas.Bool.{leb-false}
 use Rattle.program.specs.declared.refusal.Reason.TheVariants.{AlreadySeated, MemoryTooSmall, NoneSeated, NoSuchTable, IndexTooLarge, NoFreeMarks, NoSuchRegister, SecretTable, NoOutcome}
 use Rattle.program.specs.Headers.{cells_of, first_cell}
@@ -13,7 +13,7 @@ use Rattle.labels.specs.Sets.{bits, secret_tables}
 use Rattle.calls.specs.declared.Call.{Call}
 use Rattle.calls.specs.declared.Call.TheVariants.{Seat, Put, Arg, Go, Look, Open, Outcome, Clear}
 use Rattle.calls.specs.declared.Answer.TheVariants.{Word}
-use Rattle.calls.specs.Benches.{Seated, or_blank, is_none, most_steps_of, most_marks_of, none_seated, no_such_table, secret_table, outside, dear}
+use Rattle.calls.specs.Benches.{Seated, or_blank, most_steps_of, most_marks_of, none_seated, no_such_table, secret_table, outside, dear}
 use Rattle.calls.specs.Calls.{Test, ◌⇒◌, first_of, source_at, converted, unconverted, refused, counts}
 use Rattle.promises.specs.Promises.{SameBut, same, seats, puts, args, early_puts, early_args}
 use Rattle.promises.specs.Kept.{RunsAlike}

@@ -1,5 +1,5 @@
 -- Two benches that agree on what is public.
-use Rattle.std.proofs.Common.{◌≡◌, ℕ, ◌+◌, ◌<◌, false, List, length, set, Some, None, Option, sym, ap, ◌∙◌}
+use Rattle.std.proofs.Common.{◌≡◌, ℕ, ◌+◌, ◌<◌, false, List, length, set, Some, None, Option, is_none, sym, ap, ◌∙◌}
 use Rattle.memory.specs.Description.{Mark, Rules}
 use Rattle.machine.specs.States.{held}
 use Rattle.machine.specs.Machine.{length_of}
@@ -8,7 +8,7 @@ use Rattle.labels.specs.Sets.{bits, secret_tables}
 use Rattle.secrecy.proofs.Apart.{tables_apart}
 use Rattle.calls.specs.declared.Call.{Call}
 use Rattle.calls.specs.declared.Ending.{Ending}
-use Rattle.calls.specs.Benches.{Seated, Bench, bench, is_none}
+use Rattle.calls.specs.Benches.{Seated, Bench, bench}
 use Rattle.calls.specs.Calls.{leaves, replies, visits}
 use Rattle.promises.specs.Promises.{tells}
 use Rattle.promises.specs.Kept.{SamePublic}

@@ -1,5 +1,5 @@
 -- Counts are exact, and within what seat answered.
-use Rattle.std.proofs.Common.{◌≡◌, ℕ, ◌≤◌, false, ltb, List, [], ◌∷◌, length, Some, None, Option, sym, refl, subst, arith, length-append}
+use Rattle.std.proofs.Common.{◌≡◌, ℕ, ◌≤◌, false, ltb, List, [], ◌∷◌, length, Some, None, Option, is_none, sym, refl, subst, arith, length-append}
 use Rattle.std.proofs.lemmas.Bool.{ltb-false}
 use Rattle.program.specs.declared.refusal.Reason.TheVariants.{NoneSeated, NoRoomForVisits, NoFreeMarks}
 use Rattle.program.specs.declared.refusal.Refusal.{Refusal}
@@ -9,7 +9,7 @@ use Rattle.memory.specs.Laws.{Lawful}
 use Rattle.calls.specs.declared.Call.{Call}
 use Rattle.calls.specs.declared.Call.TheVariants.{Seat, Put, Arg, Go, Look, Open, Outcome, Clear}
 use Rattle.calls.specs.Bytes.{OfBytes, ImageOfBytes}
-use Rattle.calls.specs.Benches.{Seated, Bench, bench, or_blank, is_none, most_steps_of, most_marks_of, program, none_seated, new_visits, new_marks}
+use Rattle.calls.specs.Benches.{Seated, Bench, bench, or_blank, most_steps_of, most_marks_of, program, none_seated, new_visits, new_marks}
 use Rattle.calls.specs.Calls.{Test, ◌⇒◌, converted, refused, leaves, replies}
 use Rattle.promises.specs.Logs.{log}
 use Rattle.promises.specs.Promises.{Most, CountedBy, CountedGo, most_after, Tallies}

@@ -1,5 +1,5 @@
 -- An accepted go keeps two benches agreeing.
-use Rattle.std.proofs.Common.{◌≡◌, ℕ, ◌+◌, ◌<◌, ◌≤◌, false, ltb, List, [], ◌∷◌, ◌++◌, length, Some, None, Option, sym, refl, ap, ◌∙◌, subst, arith, zero-add}
+use Rattle.std.proofs.Common.{◌≡◌, ℕ, ◌+◌, ◌<◌, ◌≤◌, false, ltb, List, [], ◌∷◌, ◌++◌, length, Some, None, Option, is_none, sym, refl, ap, ◌∙◌, subst, arith, zero-add}
 use Rattle.program.specs.declared.refusal.Reason.TheVariants.{NoneSeated, NoFreeMarks, NoRoomForVisits}
 use Rattle.program.specs.Headers.{cells_of, first_cell}
 use Rattle.memory.specs.Description.{free}
@@ -8,11 +8,11 @@ use Rattle.machine.specs.States.{State, held}
 use Rattle.machine.specs.Machine.{length_of}
 use Rattle.secrecy.proofs.Apart.{tables_within}
 use Rattle.calls.specs.declared.Call.TheVariants.{Go}
-use Rattle.calls.specs.Benches.{Seated, is_none, words, ending, most_steps_of, most_marks_of, program, none_seated, gone, new_marks}
+use Rattle.calls.specs.Benches.{Seated, words, ending, most_steps_of, most_marks_of, program, none_seated, gone, new_marks}
 use Rattle.calls.specs.Calls.{Test, ◌⇒◌, converted, refused, counts}
 use Rattle.promises.specs.Kept.{Accepted, RunsAlike}
 use Rattle.promises.proofs.Refused.{differ, fails}
-use Rattle.promises.proofs.Words.{words_length, words_held}
+use Rattle.calls.proofs.Words.{words_length, words_held}
 use Rattle.promises.proofs.Sound.{From, nothing, result, Sound}
 use Rattle.promises.proofs.Agreeing.{Shared, Own, own, of, sees, sits, Agree, Next}
 

@@ -1,5 +1,5 @@
 -- A bench beside the plain bench.
-use Rattle.std.proofs.Common.{◌≡◌, ℕ, suc, ◌+◌, Bool, false, ltb, List, [], ◌∷◌, length, set, Some, None, Option, sym, refl, ap, subst, arith}
+use Rattle.std.proofs.Common.{◌≡◌, ℕ, suc, ◌+◌, Bool, false, ltb, List, [], ◌∷◌, length, set, Some, None, Option, is_none, sym, refl, ap, subst, arith}
 use Rattle.program.specs.declared.refusal.Reason.TheVariants.{NoneSeated, NoRoomForVisits, NoFreeMarks, NoOutcome}
 use Rattle.program.specs.declared.refusal.Refusal.{Refusal}
 use Rattle.program.specs.Headers.{first_cell}
@@ -13,14 +13,14 @@ use Rattle.calls.specs.declared.Call.TheVariants.{Seat, Put, Arg, Go, Look, Open
 use Rattle.calls.specs.declared.Answer.TheVariants.{Word, Ended}
 use Rattle.calls.specs.declared.Ending.{Ending}
 use Rattle.calls.specs.Bytes.{OfBytes, ImageOfBytes}
-use Rattle.calls.specs.Benches.{Seated, Bench, bench, or_blank, is_none, words, comes, ending, most_steps_of, most_marks_of, program, none_seated}
+use Rattle.calls.specs.Benches.{Seated, Bench, bench, or_blank, words, comes, ending, most_steps_of, most_marks_of, program, none_seated}
 use Rattle.calls.specs.Calls.{Test, ◌⇒◌, refused, leaves, replies, told, after_all}
 use Rattle.promises.specs.Plain.{Plain, plain, settled, takes, Says}
 use Rattle.promises.specs.Logs.{log, heard}
 use Rattle.promises.specs.Promises.{Follows}
 use Rattle.promises.specs.Kept.{ImagesAccepted, result_run, RunsFollow}
 use Rattle.promises.proofs.Refused.{differ, fails}
-use Rattle.promises.proofs.Words.{words_same}
+use Rattle.calls.proofs.Words.{words_same}
 use Rattle.promises.proofs.Sound.{From, nothing, result, Sound, source_after, sound_leaves}
 
 -- the plain bench with this source beside a bench

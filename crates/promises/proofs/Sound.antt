@@ -17,7 +17,7 @@ use Rattle.calls.specs.Benches.{Seated, Bench, new, words, none_seated, base, go
 use Rattle.calls.specs.Calls.{◌⇒◌, first_of, source_at, converted, unconverted, unseated, refused, leaves, after}
 use Rattle.promises.specs.Kept.{Accepted, ImagesAccepted}
 use Rattle.promises.proofs.Refused.{none_left, none_right, fails}
-use Rattle.promises.proofs.Words.{words_length}
+use Rattle.calls.proofs.Words.{words_length}
 
 -- d with other cells, as many, and other marks
 pub lawful_on : (d : Description) (cells : List ℕ) (seen : List Mark) → length cells ≡ length d.cells → Lawful d → Lawful (record { cells = cells; seen = seen; rules = d.rules })
