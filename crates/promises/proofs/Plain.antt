@@ -1,10 +1,9 @@
 -- A bench beside the plain bench.
 use Rattle.std.proofs.Common.{◌≡◌, ℕ, suc, ◌+◌, Bool, false, ltb, List, [], ◌∷◌, length, set, Some, None, Option, is_none, sym, refl, ap, subst, arith}
 use Rattle.program.specs.declared.refusal.Reason.TheVariants.{NoneSeated, NoRoomForVisits, NoFreeMarks, NoOutcome}
-use Rattle.program.specs.declared.refusal.Refusal.{Refusal}
 use Rattle.program.specs.Headers.{first_cell}
 use Rattle.memory.specs.Description.{Description, free}
-use Rattle.memory.specs.Accesses.{answered, left}
+use Rattle.memory.specs.Accesses.{left}
 use Rattle.machine.specs.States.{State, held}
 use Rattle.machine.specs.Machine.{Conf, go, stop}
 use Rattle.simulation.specs.Results.{FollowsRun}
@@ -12,16 +11,17 @@ use Rattle.calls.specs.declared.Call.{Call}
 use Rattle.calls.specs.declared.Call.TheVariants.{Seat, Put, Arg, Go, Look, Open, Outcome, Clear}
 use Rattle.calls.specs.declared.Answer.TheVariants.{Word, Ended}
 use Rattle.calls.specs.declared.Ending.{Ending}
-use Rattle.calls.specs.Bytes.{OfBytes, ImageOfBytes}
+use Rattle.calls.specs.Bytes.{OfBytes}
 use Rattle.calls.specs.Benches.{Seated, Bench, bench, or_blank, words, comes, ending, most_steps_of, most_marks_of, program, none_seated}
 use Rattle.calls.specs.Calls.{Test, ◌⇒◌, refused, leaves, replies, told, after_all}
 use Rattle.promises.specs.Plain.{Plain, plain, after_go, takes, Says}
-use Rattle.promises.specs.Logs.{log, heard}
+use Rattle.promises.specs.Logs.{log}
 use Rattle.promises.specs.Promises.{PlainAgrees}
 use Rattle.promises.specs.Kept.{ImagesAccepted, result_run, RunsFollow}
+use Rattle.promises.proofs.Logged.{logged}
 use Rattle.promises.proofs.Refused.{differ, fails}
 use Rattle.calls.proofs.Words.{words_same}
-use Rattle.promises.proofs.Sound.{From, nothing, result, Sound, source_after, sound_leaves}
+use Rattle.promises.proofs.Sound.{From, nothing, result, Sound, source_after, by_refusal}
 
 -- the plain bench with this source beside a bench
 abbrev pub plain_of : Option Seated → Bench → Plain
@@ -73,16 +73,12 @@ module _ (images : ImagesAccepted) (follow : RunsFollow) where
   takes_left Outcome o b s h = refl
   takes_left Clear o b s h = refl
 
-  by_refusal : (c : Call) (cs : List Call) (o : Option Seated) (b : Bench) (why : Option Refusal) → refused c b ≡ why → ImageOfBytes c → Sound o b
-      → ((p : Option Seated) (x : Bench) → Sound p x → PlainAgrees (plain_of p x) (log cs x) (after_all cs x).memory.cells)
-      → heard (answered why (replies c b)) (PlainAgrees (plain_of o b) (log cs (left why b (leaves c b))) (after_all cs (left why b (leaves c b))).memory.cells)
-      (λ a. Says (plain_of o b) c a × PlainAgrees (takes c (plain_of o b)) (log cs (left why b (leaves c b))) (after_all cs (left why b (leaves c b))).memory.cells)
-  by_refusal c cs o b (Some e) h small s later = later o b s
-  by_refusal c cs o b None h small s later = (
-    says c o b s h,
-    subst (λ p. PlainAgrees p (log cs (leaves c b)) (after_all cs (leaves c b)).memory.cells) (sym (takes_left c o b s h)) (later (source_after c o) (leaves c b) (sound_leaves images c o b small s h)),
-  )
-
   pub follows : (cs : List Call) (o : Option Seated) (b : Bench) → OfBytes cs → Sound o b → PlainAgrees (plain_of o b) (log cs b) (after_all cs b).memory.cells
   follows [] o b small s = refl
-  follows (c ∷ cs) o b small s = by_refusal c cs o b (refused c b) refl small.0 s (λ p x y. follows cs p x small.1 y)
+  follows (c ∷ cs) o b small s =
+      by_refusal images c o b (λ why. PlainAgrees (plain_of o b) (logged c b why ∷ log cs (left why b (leaves c b))) (after_all cs (left why b (leaves c b))).memory.cells) small.0 s
+      (λ e. follows cs o b small.1 s)
+      (λ h t. (
+        says c o b s h,
+        subst (λ p. PlainAgrees p (log cs (leaves c b)) (after_all cs (leaves c b)).memory.cells) (sym (takes_left c o b s h)) (follows cs (source_after c o) (leaves c b) small.1 t),
+      ))

@@ -86,9 +86,14 @@ module _ (images : ImagesAccepted) where
   sound_leaves Outcome o b small s h = s
   sound_leaves Clear o b small s h = record { lawful = lawful_on b.memory _ _ refl s.lawful; low = s.low; from = s.from }
 
-  sound_left : (c : Call) (o : Option Seated) (b : Bench) (why : Option Refusal) → refused c b ≡ why → ImageOfBytes c → Sound o b → Sound (left why o (source_after c o)) (left why b (leaves c b))
-  sound_left c o b (Some e) h small s = s
-  sound_left c o b None h small s = sound_leaves c o b small s h
+  -- what holds of a call where it is refused and where it is accepted, holds of it
+  pub by_refusal : (c : Call) (o : Option Seated) (b : Bench) (P : Option Refusal → Type 0) → ImageOfBytes c → Sound o b
+      → ((e : Refusal) → P (Some e)) → (refused c b ≡ None → Sound (source_after c o) (leaves c b) → P None) → P (refused c b)
+  by_refusal c o b P small s bad good = by (refused c b) refl
+    where
+      by : (why : Option Refusal) → refused c b ≡ why → P why
+      by (Some e) h = bad e
+      by None h = good h (sound_leaves c o b small s h)
 
   pub sound_after : (c : Call) (o : Option Seated) (b : Bench) → ImageOfBytes c → Sound o b → Sound (left (refused c b) o (source_after c o)) (after c b)
-  sound_after c o b small s = sound_left c o b (refused c b) refl small s
+  sound_after c o b small s = by_refusal c o b (λ why. Sound (left why o (source_after c o)) (left why b (leaves c b))) small s (λ e. s) (λ h t. t)

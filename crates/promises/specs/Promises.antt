@@ -39,7 +39,7 @@ pub data AllSameButSecrets : Bench → List Call → List Call → Type 0 where
   none : (b : Bench) → AllSameButSecrets b [] []
   more : (b : Bench) (x y : Call) (xs ys : List Call) → SameButSecrets b x y → AllSameButSecrets (after x b) xs ys → AllSameButSecrets b (x ∷ xs) (y ∷ ys)
 
--- whether the answer to a call may tell secrets: open and outcome are there to
+-- whether the answer to a call may tell secrets, which is what open and outcome are for
 abbrev pub tells : Call → Bool
 tells (Seat image) = false
 tells (Put t i w) = false
