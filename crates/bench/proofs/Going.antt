@@ -19,7 +19,7 @@ use Rattle.calls.specs.declared.Call.TheVariants.{Go}
 use Rattle.calls.specs.declared.Ending.{Ending}
 use Rattle.calls.specs.Benches.{Seated, or_blank, bench, words, comes, ending_of}
 use Rattle.calls.specs.Calls.{first_of, ◌⇒◌, leaves, after}
-use Rattle.bench.proofs.Words.{words_all}
+use Rattle.calls.proofs.Words.{words_all}
 
 -- one test, either way round
 turned : (n m : ℕ) (why : Reason) → unless (leb n m) why 0 ≡ cond (ltb m n) (Some (refusal_at why 0)) None

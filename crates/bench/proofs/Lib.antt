@@ -1,4 +1,3 @@
 pub mod Fronts
 pub mod Going
 pub mod Longest
-pub mod Words

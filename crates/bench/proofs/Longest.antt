@@ -10,9 +10,10 @@ use Rattle.program.specs.declared.opening.Marked.{Marked}
 use Rattle.program.specs.declared.program.Program.{Program}
 use Rattle.program.specs.declared.refusal.Reason.TheVariants.{NotASource, NoRoomForCode, NoRoomForResult, TooManySteps}
 use Rattle.program.specs.declared.refusal.Refusal.{Refusal}
-use Rattle.program.specs.Headers.{is_source, longest}
+use Rattle.program.specs.Headers.{is_source}
 use Rattle.program.specs.Programs.{code_of}
 use Rattle.program.specs.Refusals.{unless, or_else}
+use Rattle.program.proofs.Headers.{longest_short}
 use Rattle.labels.specs.Kinds.{secrecy}
 use Rattle.labels.specs.Passes.{opens}
 use Rattle.labels.specs.Sets.{sets}
@@ -33,10 +34,6 @@ use Rattle.calls.specs.Calls.{source_at, unconverted}
 use Rattle.bench.specs.Seats.{program_seated}
 
 module _ (bs : List ℕ) (bytes : Bytes bs) where
-  longest_short : (k : Kind) → longest k ≤ 3000
-  longest_short Source = omega arith
-  longest_short Converted = omega arith
-
   image_short : image_refusal bs ≡ None → (header_at bs).count ≤ 3000
   image_short e =
       let s = header_sound bs bytes (header_is_good bs e) in

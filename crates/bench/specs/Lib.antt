@@ -1,3 +1,3 @@
 pub mod Seats
 pub mod Views
-pub mod Rooms
+pub mod Calling

@@ -1,8 +1,8 @@
 // A bench, with what it keeps between calls.
-ghost use Rattle.std.specs.Prelude.{◌≡◌, ◌≤◌, true, length};
+ghost use Rattle.std.specs.Prelude.{◌≡◌, ◌≤◌, true, is_none, length};
 ghost use Rattle.program.specs.Headers.{cells_of};
 ghost use Rattle.counting.specs.Counting.{most_steps};
-ghost use Rattle.calls.specs.Benches.{or_blank, is_none};
+ghost use Rattle.calls.specs.Benches.{or_blank};
 ghost use Rattle.bench.specs.Seats.{seated};
 
 use crate::lists::Lists;

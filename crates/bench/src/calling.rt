@@ -3,7 +3,7 @@ ghost use Rattle.std.specs.Prelude.{◌≡◌, ◌++◌, length, drop};
 ghost use Rattle.calls.specs.Bytes.{ImageOfBytes};
 ghost use Rattle.calls.specs.Calls.{answer, after, visited};
 ghost use Rattle.bench.specs.Views.{view};
-ghost use Rattle.bench.specs.Rooms.{within};
+ghost use Rattle.bench.specs.Calling.{within};
 
 use crate::bench::Bench;
 use calls::{Answer, Call};

@@ -1,5 +1,5 @@
 -- A bench as its user sees it, and what can be asked of it.
-use Rattle.std.specs.Prelude.{ℕ, zero, suc, ◌+◌, Bool, true, false, List, [], ◌∷◌, replicate, Some, None, Option, nat_le, nat_lt}
+use Rattle.std.specs.Prelude.{ℕ, zero, suc, ◌+◌, Bool, List, [], ◌∷◌, replicate, Some, None, Option, is_none, nat_le, nat_lt}
 use Rattle.instructions.specs.declared.Instruction.{Instruction}
 use Rattle.program.specs.declared.header.Header.{Header}
 use Rattle.program.specs.declared.header.Kind.TheVariants.{Converted}
@@ -47,10 +47,6 @@ blank = seat (record { kind = Converted; tables = []; used = 0; count = 0; secre
 abbrev pub or_blank : Option Seated → Seated
 or_blank None = blank
 or_blank (Some s) = s
-
-abbrev pub is_none : {X : Type 0} → Option X → Bool
-is_none None = true
-is_none (Some x) = false
 
 -- the first n words of f, from word i on
 abbrev pub words_from : ℕ → ℕ → (ℕ → ℕ) → List ℕ

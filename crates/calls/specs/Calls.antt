@@ -1,5 +1,5 @@
 -- What each call refuses, answers and leaves.
-use Rattle.std.specs.Prelude.{ℕ, ◌+◌, Bool, cond, not, List, [], ◌∷◌, length, Some, None, vec_items, Option, Result, nat_le, nat_lt, slice_set}
+use Rattle.std.specs.Prelude.{ℕ, ◌+◌, Bool, cond, not, List, [], ◌∷◌, length, Some, None, vec_items, Option, is_none, Result, nat_le, nat_lt, slice_set}
 use Rattle.program.specs.declared.refusal.Refusal.{Refusal}
 use Rattle.program.specs.declared.refusal.Reason.{Reason}
 use Rattle.program.specs.declared.refusal.Reason.TheVariants.{NotASource, TooManySteps, AlreadySeated, MemoryTooSmall, NoneSeated, NoSuchTable, IndexTooLarge, NoFreeMarks, NoSuchRegister, SecretTable, NoRoomForVisits, NoOutcome}
@@ -18,7 +18,7 @@ use Rattle.calls.specs.declared.Call.TheVariants.{Seat, Put, Arg, Go, Look, Open
 use Rattle.calls.specs.declared.Answer.{Answer}
 use Rattle.calls.specs.declared.Answer.TheVariants.{Done, Counts, Word, Ended}
 use Rattle.calls.specs.declared.Ending.{Ending}
-use Rattle.calls.specs.Benches.{Seated, seat, Bench, bench, is_none, words, ending, most_steps_of, most_marks_of, program, none_seated, no_such_table, len, base, secret_table, outside, dear, cell_at, gone, new_visits, new_marks}
+use Rattle.calls.specs.Benches.{Seated, seat, Bench, bench, words, ending, most_steps_of, most_marks_of, program, none_seated, no_such_table, len, base, secret_table, outside, dear, cell_at, gone, new_visits, new_marks}
 
 -- a test, and the reason that is given where it holds
 pub data Test : Type 0 where

@@ -11,7 +11,7 @@ use Rattle.calls.specs.declared.Call.TheVariants.{Seat, Put, Arg, Go, Look, Open
 use Rattle.calls.specs.declared.Answer.{Answer}
 use Rattle.calls.specs.Benches.{Bench, program, none_seated, most_steps_of, most_marks_of, new_visits}
 use Rattle.calls.specs.Calls.{first_of, ◌⇒◌, refused, leaves, replies, visits, answer, after, visited, counts}
-use Rattle.bench.specs.Rooms.{within}
+use Rattle.bench.specs.Calling.{within}
 use Rattle.player.specs.Entries.{noted, room_of, made_by, steps_in}
 
 roomy : (room most bound : ℕ) → most ≤ bound → ltb (min room (min room bound)) most ≡ ltb room most

@@ -1,9 +1,10 @@
 -- Accepted calls that differ in secret words only keep two benches agreeing.
-use Rattle.std.proofs.Common.{◌≡◌, ℕ, ◌+◌, ◌<◌, false, not, ltb, List, [], ◌∷◌, ◌++◌, length, set, Some, None, vec_items, Option, sym, refl, ap, ◌∙◌, length-set}
+use Rattle.std.proofs.Common.{◌≡◌, ℕ, ◌+◌, ◌<◌, false, not, ltb, List, [], ◌∷◌, ◌++◌, length, set, Some, None, vec_items, Option, is_none, sym, refl, ap, ◌∙◌, length-set}
 use Rattle.std.proofs.lemmas.Bool.{leb-false}
 use Rattle.program.specs.declared.refusal.Reason.TheVariants.{AlreadySeated, MemoryTooSmall, NoneSeated, NoSuchTable, IndexTooLarge, NoFreeMarks, NoSuchRegister, SecretTable, NoOutcome}
 use Rattle.program.specs.Headers.{cells_of, first_cell}
 use Rattle.program.specs.Refusals.{or_else}
+use Rattle.program.proofs.Refusals.{both}
 use Rattle.header.specs.Layout.{header_at}
 use Rattle.image.specs.Images.{image_refusal}
 use Rattle.memory.specs.declared.Access.TheVariants.{Read, Write}
@@ -13,17 +14,17 @@ use Rattle.labels.specs.Sets.{bits, secret_tables}
 use Rattle.calls.specs.declared.Call.{Call}
 use Rattle.calls.specs.declared.Call.TheVariants.{Seat, Put, Arg, Go, Look, Open, Outcome, Clear}
 use Rattle.calls.specs.declared.Answer.TheVariants.{Word}
-use Rattle.calls.specs.Benches.{Seated, or_blank, is_none, most_steps_of, most_marks_of, none_seated, no_such_table, secret_table, outside, dear}
+use Rattle.calls.specs.Benches.{Seated, or_blank, most_steps_of, most_marks_of, none_seated, no_such_table, secret_table, outside, dear}
 use Rattle.calls.specs.Calls.{Test, ◌⇒◌, first_of, source_at, converted, unconverted, refused, counts}
-use Rattle.promises.specs.Promises.{SameBut, same, seats, puts, args, early_puts, early_args}
-use Rattle.promises.specs.Kept.{RunsAlike}
-use Rattle.promises.proofs.Refused.{differ, none_left, fails, rest}
+use Rattle.promises.specs.Promises.{SameButSecrets, same, seats, puts, args, early_puts, early_args}
+use Rattle.promises.specs.Kept.{ResultRunsAlike}
+use Rattle.promises.proofs.Refused.{differ, fails, rest}
 use Rattle.promises.proofs.Sound.{Sound}
 use Rattle.promises.proofs.Going.{going}
 use Rattle.promises.proofs.Agreeing.{Shared, Own, own, of, sees, sits, Public, Agree, Next, same_put, same_arg, all_same}
 
 -- both are refused, or neither
-pub same_refusal : (a : Shared) (o p : Own) {x y : Call} → SameBut (of a o) x y → Agree a o p → refused x (of a o) ≡ refused y (of a p)
+pub same_refusal : (a : Shared) (o p : Own) {x y : Call} → SameButSecrets (of a o) x y → Agree a o p → refused x (of a o) ≡ refused y (of a p)
 same_refusal a o p (same (Seat v)) g =
     ap (λ n. or_else (first_of (not (is_none a.seated) ⇒ AlreadySeated ∷ []))
     (or_else (image_refusal (vec_items v)) (or_else (unconverted a.rules.hides (source_at (vec_items v))) (first_of (ltb n (cells_of (header_at (vec_items v)).tables) ⇒ MemoryTooSmall ∷ []))))) g.size
@@ -101,7 +102,7 @@ seating a o p v w e g h =
       agree = record {
         size = g.size;
         lasts = g.lasts;
-        public = by (converted (source_at (vec_items v))) a.seated (fails (not (is_none a.seated)) AlreadySeated [] (none_left taken later h)) g.public;
+        public = by (converted (source_at (vec_items v))) a.seated (fails (not (is_none a.seated)) AlreadySeated [] (both taken later h).0) g.public;
       };
       visits = refl;
       reply = λ z t. counts (most_steps_of (converted (source_at (e t)))) (most_marks_of a.rules (converted (source_at (e t))));
@@ -166,7 +167,7 @@ clearing a o p g = record {
   reply = λ z. refl;
 }
 
-pub accepted : RunsAlike → (a : Shared) (o p : Own) {x y : Call} → SameBut (of a o) x y → Agree a o p → (u v : Option Seated) → Sound u (of a o) → Sound v (of a p) → refused x (of a o) ≡ None → Next x y a o p
+pub accepted : ResultRunsAlike → (a : Shared) (o p : Own) {x y : Call} → SameButSecrets (of a o) x y → Agree a o p → (u v : Option Seated) → Sound u (of a o) → Sound v (of a p) → refused x (of a o) ≡ None → Next x y a o p
 accepted alike a o p (same (Seat v)) g u u′ s z h = seating a o p v v refl g h
 accepted alike a o p (same (Put t i w)) g u u′ s z h = putting a o p t i w w g h (λ e. refl)
 accepted alike a o p (same (Arg r w)) g u u′ s z h = arging a o p r w w g (s.low ∙ sym z.low) h (λ e. refl)

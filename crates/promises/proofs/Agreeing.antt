@@ -1,5 +1,5 @@
 -- Two benches that agree on what is public.
-use Rattle.std.proofs.Common.{◌≡◌, ℕ, ◌+◌, ◌<◌, false, List, length, set, Some, None, Option, sym, ap, ◌∙◌}
+use Rattle.std.proofs.Common.{◌≡◌, ℕ, ◌+◌, ◌<◌, false, List, length, set, Some, None, Option, is_none, sym, ap, ◌∙◌}
 use Rattle.memory.specs.Description.{Mark, Rules}
 use Rattle.machine.specs.States.{held}
 use Rattle.machine.specs.Machine.{length_of}
@@ -8,10 +8,10 @@ use Rattle.labels.specs.Sets.{bits, secret_tables}
 use Rattle.secrecy.proofs.Apart.{tables_apart}
 use Rattle.calls.specs.declared.Call.{Call}
 use Rattle.calls.specs.declared.Ending.{Ending}
-use Rattle.calls.specs.Benches.{Seated, Bench, bench, is_none}
+use Rattle.calls.specs.Benches.{Seated, Bench, bench}
 use Rattle.calls.specs.Calls.{leaves, replies, visits}
 use Rattle.promises.specs.Promises.{tells}
-use Rattle.promises.specs.Kept.{SamePublic}
+use Rattle.promises.specs.Kept.{SamePublicStart}
 use Rattle.promises.proofs.BothSet.{set_both}
 
 -- what the two have in common
@@ -41,7 +41,7 @@ sits a s = record { rules = a.rules; seen = a.seen; seated = Some s }
 -- what is public to the program seated; before one is, all of it
 abbrev pub Public : Option Seated → Own → Own → Type 0
 Public None o p = (o.cells ≡ p.cells) × (o.entry ≡ p.entry)
-Public (Some s) o p = SamePublic s o.entry p.entry o.cells p.cells
+Public (Some s) o p = SamePublicStart s o.entry p.entry o.cells p.cells
 
 pub record Agree (a : Shared) (o p : Own) : Type 0 where
   pub size : length o.cells ≡ length p.cells
@@ -61,7 +61,7 @@ pub record Next (x y : Call) (a : Shared) (o p : Own) : Type 0 where
 
 -- cell i of table t is set, to the same word where the table is public
 pub same_put : (s : Seated) (entry entry′ memory memory′ : List ℕ) (t i v w : ℕ) → length memory ≡ length memory′ → i < length_of s.header.tables t → (secret_tables s.header.tables t ≡ false → v ≡ w)
-    → SamePublic s entry entry′ memory memory′ → SamePublic s entry entry′ (set memory (first_cell s.header.tables t + i) v) (set memory′ (first_cell s.header.tables t + i) w)
+    → SamePublicStart s entry entry′ memory memory′ → SamePublicStart s entry entry′ (set memory (first_cell s.header.tables t + i) v) (set memory′ (first_cell s.header.tables t + i) w)
 same_put s entry entry′ memory memory′ t i v w n hi h g =
     let ts = s.header.tables in
     record {
@@ -73,7 +73,7 @@ same_put s entry entry′ memory memory′ t i v w n hi h g =
 
 -- entry register r is set, to the same word where it is public
 pub same_arg : (s : Seated) (entry entry′ memory memory′ : List ℕ) (r v w : ℕ) → length entry ≡ length entry′ → (bits s.header.secret_entry r ≡ false → v ≡ w)
-    → SamePublic s entry entry′ memory memory′ → SamePublic s (set entry r v) (set entry′ r w) memory memory′
+    → SamePublicStart s entry entry′ memory memory′ → SamePublicStart s (set entry r v) (set entry′ r w) memory memory′
 same_arg s entry entry′ memory memory′ r v w n h g = record {
   registers = λ k hk e. set_both entry entry′ r v w k n (λ q. h (ap (bits s.header.secret_entry) (sym q) ∙ e)) (g.registers k hk e);
   cells = g.cells;

@@ -23,8 +23,8 @@ use Rattle.secrecy.proofs.Apart.{tables_within}
 use Rattle.run.specs.Run.{visit_at, visits_of, marks_of}
 use Rattle.calls.specs.Benches.{Seated}
 use Rattle.calls.specs.Calls.{converted}
-use Rattle.promises.specs.Promises.{Straight}
-use Rattle.promises.specs.Kept.{Accepted, result_run, RunsCounted}
+use Rattle.promises.specs.Promises.{OneWaySource}
+use Rattle.promises.specs.Kept.{AcceptedSource, result_run, RunsCounted}
 use Rattle.promises.proofs.InRange.{InRange, in_range}
 use Rattle.promises.proofs.Following.{labels, ends}
 use Rattle.converter.proofs.Keeping.{tree_of}
@@ -66,7 +66,7 @@ module _ (d : Description) (tables : List Table) (law : Lawful d) (small : cells
       let f = priced Write b i h.0 (omega arith) in
       omega (arith, length-append (marks_of tables d.rules.shows t) (d.rules.shows Write (first_cell tables b) (length_of tables b) i))
 
-module _ {hides : Bool} (s : Seated) (ok : Accepted hides s) (entry cells : List ℕ) where
+module _ {hides : Bool} (s : Seated) (ok : AcceptedSource hides s) (entry cells : List ℕ) where
   -- whatever is counted, a run counts at most the most, where that is not held
   weighs_most : (w : Price) → sums w [] 0 (converted s).code ≤ 1000000 → weigh w (result_run s entry cells).trace ≤ sums w [] 0 (converted s).code
   weighs_most w few =
@@ -87,7 +87,7 @@ runs_counted d s entry cells law ok small few low =
     let le_steps = weighs_most s ok entry cells each_step ok.short in
     let le_marks = weighs_most s ok entry cells w few in
     let m = marks_weigh d s.header.tables law small z.trace (run_in_range s ok entry cells) (omega arith) in
-    let all = λ (o : Straight s). result_counts_most (labels s) s.header s.code (first entry cells) z (tree_of s.header s.code ok.source) o ok.short (ends s ok entry cells low) in
+    let all = λ (o : OneWaySource s). result_counts_most (labels s) s.header s.code (first entry cells) z (tree_of s.header s.code ok.source) o ok.short (ends s ok entry cells low) in
     record {
       few_steps = omega arith;
       few_marks = omega arith;

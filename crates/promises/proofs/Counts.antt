@@ -1,22 +1,21 @@
 -- Counts are exact, and within what seat answered.
-use Rattle.std.proofs.Common.{◌≡◌, ℕ, ◌≤◌, false, ltb, List, [], ◌∷◌, length, Some, None, Option, sym, refl, subst, arith, length-append}
+use Rattle.std.proofs.Common.{◌≡◌, ℕ, ◌≤◌, false, ltb, List, [], ◌∷◌, length, Some, None, Option, is_none, sym, refl, subst, arith, length-append}
 use Rattle.std.proofs.lemmas.Bool.{ltb-false}
 use Rattle.program.specs.declared.refusal.Reason.TheVariants.{NoneSeated, NoRoomForVisits, NoFreeMarks}
-use Rattle.program.specs.declared.refusal.Refusal.{Refusal}
 use Rattle.memory.specs.Description.{Description, Rules, free}
 use Rattle.memory.specs.Accesses.{left}
 use Rattle.memory.specs.Laws.{Lawful}
 use Rattle.calls.specs.declared.Call.{Call}
 use Rattle.calls.specs.declared.Call.TheVariants.{Seat, Put, Arg, Go, Look, Open, Outcome, Clear}
-use Rattle.calls.specs.Bytes.{OfBytes, ImageOfBytes}
-use Rattle.calls.specs.Benches.{Seated, Bench, bench, or_blank, is_none, most_steps_of, most_marks_of, program, none_seated, new_visits, new_marks}
+use Rattle.calls.specs.Bytes.{OfBytes}
+use Rattle.calls.specs.Benches.{Seated, Bench, bench, or_blank, most_steps_of, most_marks_of, program, none_seated, new_visits, new_marks}
 use Rattle.calls.specs.Calls.{Test, ◌⇒◌, converted, refused, leaves, replies}
 use Rattle.promises.specs.Logs.{log}
 use Rattle.promises.specs.Promises.{Most, CountedBy, CountedGo, most_after, Tallies}
 use Rattle.promises.specs.Kept.{ImagesAccepted, RunsCounted}
 use Rattle.promises.proofs.Refused.{differ, fails, rest}
 use Rattle.promises.proofs.Logged.{logged}
-use Rattle.promises.proofs.Sound.{From, nothing, result, Sound, source_after, sound_leaves}
+use Rattle.promises.proofs.Sound.{From, nothing, result, Sound, source_after, by_refusal}
 
 -- what the seat of this source answered
 abbrev most_by : Rules → Option Seated → Option Most
@@ -74,15 +73,12 @@ module _ (images : ImagesAccepted) (counted : RunsCounted) where
   most_left Outcome o b = refl
   most_left Clear o b = refl
 
-  by_refusal : (c : Call) (cs : List Call) (o : Option Seated) (b : Bench) (why : Option Refusal) → refused c b ≡ why → ImageOfBytes c → Sound o b
-      → ((p : Option Seated) (x : Bench) → Sound p x → Tallies (most p x) x.memory.seen (log cs x))
-      → Tallies (most o b) b.memory.seen (logged c b why ∷ log cs (left why b (leaves c b)))
-  by_refusal c cs o b (Some e) h small s later = later o b s
-  by_refusal c cs o b None h small s later = (
-    call_counted c o b s h,
-    subst (λ m. Tallies m (leaves c b).memory.seen (log cs (leaves c b))) (sym (most_left c o b)) (later (source_after c o) (leaves c b) (sound_leaves images c o b small s h)),
-  )
-
   pub tallies : (cs : List Call) (o : Option Seated) (b : Bench) → OfBytes cs → Sound o b → Tallies (most o b) b.memory.seen (log cs b)
   tallies [] o b small s = tt
-  tallies (c ∷ cs) o b small s = by_refusal c cs o b (refused c b) refl small.0 s (λ p x y. tallies cs p x small.1 y)
+  tallies (c ∷ cs) o b small s =
+      by_refusal images c o b (λ why. Tallies (most o b) b.memory.seen (logged c b why ∷ log cs (left why b (leaves c b)))) small.0 s
+      (λ e. tallies cs o b small.1 s)
+      (λ h t. (
+        call_counted c o b s h,
+        subst (λ m. Tallies m (leaves c b).memory.seen (log cs (leaves c b))) (sym (most_left c o b)) (tallies cs (source_after c o) (leaves c b) small.1 t),
+      ))

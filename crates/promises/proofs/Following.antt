@@ -10,13 +10,13 @@ use Rattle.simulation.proofs.Results.{result_follows}
 use Rattle.secrecy.specs.Whole.{EndsIn}
 use Rattle.calls.specs.Benches.{Seated, comes}
 use Rattle.calls.specs.Calls.{converted}
-use Rattle.promises.specs.Kept.{Accepted, result_run, RunsFollow}
+use Rattle.promises.specs.Kept.{AcceptedSource, result_run, RunsFollow}
 
 -- the smallest labels of a source
 abbrev pub labels : Seated → ℕ → ℕ → Bool
 labels s = smallest_labels s.header s.code
 
-module _ {hides : Bool} (s : Seated) (ok : Accepted hides s) where
+module _ {hides : Bool} (s : Seated) (ok : AcceptedSource hides s) where
   module _ (entry cells : List ℕ) (low : length entry ≡ 16) where
     ended : (z : State) × EndsIn s.header.tables (converted s).code (first entry cells) z × FollowsRun (comes s entry cells) z
     ended = result_follows (labels s) s.header s.code (first entry cells) ok.source.header (tree_of s.header s.code ok.source) ok.short (get_or_past entry 24 0 (omega arith))

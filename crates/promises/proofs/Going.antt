@@ -1,5 +1,5 @@
 -- An accepted go keeps two benches agreeing.
-use Rattle.std.proofs.Common.{◌≡◌, ℕ, ◌+◌, ◌<◌, ◌≤◌, false, ltb, List, [], ◌∷◌, ◌++◌, length, Some, None, Option, sym, refl, ap, ◌∙◌, subst, arith, zero-add}
+use Rattle.std.proofs.Common.{◌≡◌, ℕ, ◌+◌, ◌<◌, ◌≤◌, false, ltb, List, [], ◌∷◌, ◌++◌, length, Some, None, Option, is_none, sym, refl, ap, ◌∙◌, subst, arith, zero-add}
 use Rattle.program.specs.declared.refusal.Reason.TheVariants.{NoneSeated, NoFreeMarks, NoRoomForVisits}
 use Rattle.program.specs.Headers.{cells_of, first_cell}
 use Rattle.memory.specs.Description.{free}
@@ -8,15 +8,15 @@ use Rattle.machine.specs.States.{State, held}
 use Rattle.machine.specs.Machine.{length_of}
 use Rattle.secrecy.proofs.Apart.{tables_within}
 use Rattle.calls.specs.declared.Call.TheVariants.{Go}
-use Rattle.calls.specs.Benches.{Seated, is_none, words, ending, most_steps_of, most_marks_of, program, none_seated, gone, new_marks}
+use Rattle.calls.specs.Benches.{Seated, words, ending, most_steps_of, most_marks_of, program, none_seated, gone, new_marks}
 use Rattle.calls.specs.Calls.{Test, ◌⇒◌, converted, refused, counts}
-use Rattle.promises.specs.Kept.{Accepted, RunsAlike}
+use Rattle.promises.specs.Kept.{AcceptedSource, ResultRunsAlike}
 use Rattle.promises.proofs.Refused.{differ, fails}
-use Rattle.promises.proofs.Words.{words_length, words_held}
+use Rattle.calls.proofs.Words.{words_length, words_held}
 use Rattle.promises.proofs.Sound.{From, nothing, result, Sound}
 use Rattle.promises.proofs.Agreeing.{Shared, Own, own, of, sees, sits, Agree, Next}
 
-module _ (alike : RunsAlike) (room : ℕ) where
+module _ (alike : ResultRunsAlike) (room : ℕ) where
   abbrev ended : Own → State → Own
   ended o z = own (words (length o.cells) z.cells) o.entry (Some (ending z))
 
@@ -28,7 +28,7 @@ module _ (alike : RunsAlike) (room : ℕ) where
       let l = tables_within s.header.tables t i hi in
       words_held (length o.cells) 0 z.cells c (omega arith) ∙ ap z.cells (zero-add c)
 
-  going_by : (a : Shared) (s : Seated) (o p : Own) → Accepted a.rules.hides s → cells_of s.header.tables ≤ length o.cells → Agree (sits a (converted s)) o p → Lawful (of a o).memory
+  going_by : (a : Shared) (s : Seated) (o p : Own) → AcceptedSource a.rules.hides s → cells_of s.header.tables ≤ length o.cells → Agree (sits a (converted s)) o p → Lawful (of a o).memory
       → length o.entry ≡ 16 → length p.entry ≡ 16 → Next (Go room) (Go room) (sits a (converted s)) o p
   going_by a s o p ok small g law lo lp =
       let x = sits a (converted s) in

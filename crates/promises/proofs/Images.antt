@@ -15,8 +15,7 @@ use Rattle.counting.specs.Counting.{most_steps}
 use Rattle.calls.specs.Benches.{Seated}
 use Rattle.calls.specs.Calls.{source_at}
 use Rattle.promises.specs.Kept.{ImagesAccepted}
-use Rattle.promises.proofs.Refused.{none_left, none_right}
-use Rattle.program.proofs.Refusals.{passed}
+use Rattle.program.proofs.Refusals.{both, passed}
 
 module _ (s : Seated) (sound : SoundCode s.header s.code) where
   whole_list : SoundList s.header s.code
@@ -32,7 +31,7 @@ images_accepted hides bs small read unrefused =
     let size = unless (leb (most_steps (result_of s.header s.code)) 1000000) TooManySteps 0 in
     let later = or_else (place_refusal s.header s.code hides) size in
     let first = unless (is_source s.header.kind) NotASource 0 in
-    let then = none_right first later unrefused in
+    let then = both (place_refusal s.header s.code hides) size (both first later unrefused).1 in
     let sound = code_sound bs read in
     record {
       source = record {
@@ -41,6 +40,6 @@ images_accepted hides bs small read unrefused =
         list = whole_list s sound;
         whole = sound.long;
       };
-      places = none_left (place_refusal s.header s.code hides) size then;
-      short = leb-true (most_steps (result_of s.header s.code)) 1000000 (passed (leb (most_steps (result_of s.header s.code)) 1000000) TooManySteps 0 (none_right (place_refusal s.header s.code hides) size then));
+      places = then.0;
+      short = leb-true (most_steps (result_of s.header s.code)) 1000000 (passed (leb (most_steps (result_of s.header s.code)) 1000000) TooManySteps 0 then.1);
     }

@@ -1,5 +1,4 @@
 pub mod Refused
-pub mod Words
 pub mod BothSet
 pub mod Images
 pub mod Following

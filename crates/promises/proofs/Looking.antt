@@ -23,7 +23,7 @@ use Rattle.secrecy.proofs.Whole.{converted_runs_alike}
 use Rattle.run.specs.Run.{visit_at, visits_of, marks_of}
 use Rattle.calls.specs.Benches.{Seated}
 use Rattle.calls.specs.Calls.{converted}
-use Rattle.promises.specs.Kept.{Accepted, result_run, SamePublic, RunsAlike}
+use Rattle.promises.specs.Kept.{AcceptedSource, result_run, SamePublicStart, ResultRunsAlike}
 use Rattle.promises.proofs.Following.{labels, ends}
 
 wide_false : (A : ℕ → Bool) (r : ℕ) (b : Bool) → ltb r 16 ≡ b → cond b (A r) true ≡ false → (r < 16) × (A r ≡ false)
@@ -65,8 +65,8 @@ module _ (d : Description) (tables : List Table) (law : Lawful d) (small : cells
       seen_same tables (hidden_by d.rules.hides) (marks_of tables d.rules.shows) (marked_too tables d.rules.shows) t u
       (record { each = marks_each tables d.rules.shows; reading = λ p b i j x h li lj. hidden_marks Read b i j x h li lj; writing = λ p b i j x h li lj. hidden_marks Write b i j x h li lj }) l
 
-module _ {hides : Bool} (s : Seated) (ok : Accepted hides s) where
-  begins : (entry entry′ memory memory′ : List ℕ) → SamePublic s entry entry′ memory memory′
+module _ {hides : Bool} (s : Seated) (ok : AcceptedSource hides s) where
+  begins : (entry entry′ memory memory′ : List ℕ) → SamePublicStart s entry entry′ memory memory′
       → Alike s.header.tables (secret_tables s.header.tables) (hidden_by hides) (wide (labels s 0)) (first entry memory) (first entry′ memory′)
   begins entry entry′ memory memory′ g = record {
     registers = λ r h.
@@ -76,7 +76,7 @@ module _ {hides : Bool} (s : Seated) (ok : Accepted hides s) where
     trace = L.LooksLike.none;
   }
 
-pub runs_alike : RunsAlike
+pub runs_alike : ResultRunsAlike
 runs_alike d s entry entry′ memory memory′ law ok small low low′ g =
     let t = tree_of s.header s.code ok.source in
     let tables = s.header.tables in

@@ -1,10 +1,9 @@
 -- A bench beside the plain bench.
-use Rattle.std.proofs.Common.{◌≡◌, ℕ, suc, ◌+◌, Bool, false, ltb, List, [], ◌∷◌, length, set, Some, None, Option, sym, refl, ap, subst, arith}
+use Rattle.std.proofs.Common.{◌≡◌, ℕ, suc, ◌+◌, Bool, false, ltb, List, [], ◌∷◌, length, set, Some, None, Option, is_none, sym, refl, ap, subst, arith}
 use Rattle.program.specs.declared.refusal.Reason.TheVariants.{NoneSeated, NoRoomForVisits, NoFreeMarks, NoOutcome}
-use Rattle.program.specs.declared.refusal.Refusal.{Refusal}
 use Rattle.program.specs.Headers.{first_cell}
 use Rattle.memory.specs.Description.{Description, free}
-use Rattle.memory.specs.Accesses.{answered, left}
+use Rattle.memory.specs.Accesses.{left}
 use Rattle.machine.specs.States.{State, held}
 use Rattle.machine.specs.Machine.{Conf, go, stop}
 use Rattle.simulation.specs.Results.{FollowsRun}
@@ -12,28 +11,29 @@ use Rattle.calls.specs.declared.Call.{Call}
 use Rattle.calls.specs.declared.Call.TheVariants.{Seat, Put, Arg, Go, Look, Open, Outcome, Clear}
 use Rattle.calls.specs.declared.Answer.TheVariants.{Word, Ended}
 use Rattle.calls.specs.declared.Ending.{Ending}
-use Rattle.calls.specs.Bytes.{OfBytes, ImageOfBytes}
-use Rattle.calls.specs.Benches.{Seated, Bench, bench, or_blank, is_none, words, comes, ending, most_steps_of, most_marks_of, program, none_seated}
+use Rattle.calls.specs.Bytes.{OfBytes}
+use Rattle.calls.specs.Benches.{Seated, Bench, bench, or_blank, words, comes, ending, most_steps_of, most_marks_of, program, none_seated}
 use Rattle.calls.specs.Calls.{Test, ◌⇒◌, refused, leaves, replies, told, after_all}
-use Rattle.promises.specs.Plain.{Plain, plain, settled, takes, Says}
-use Rattle.promises.specs.Logs.{log, heard}
-use Rattle.promises.specs.Promises.{Follows}
+use Rattle.promises.specs.Plain.{Plain, plain, after_go, takes, Says}
+use Rattle.promises.specs.Logs.{log}
+use Rattle.promises.specs.Promises.{PlainAgrees}
 use Rattle.promises.specs.Kept.{ImagesAccepted, result_run, RunsFollow}
+use Rattle.promises.proofs.Logged.{logged}
 use Rattle.promises.proofs.Refused.{differ, fails}
-use Rattle.promises.proofs.Words.{words_same}
-use Rattle.promises.proofs.Sound.{From, nothing, result, Sound, source_after, sound_leaves}
+use Rattle.calls.proofs.Words.{words_same}
+use Rattle.promises.proofs.Sound.{From, nothing, result, Sound, source_after, by_refusal}
 
 -- the plain bench with this source beside a bench
 abbrev pub plain_of : Option Seated → Bench → Plain
 plain_of o b = plain o b.entry b.memory.cells b.last
 
-settled_is : (p : Plain) (c : Conf) (z : State) → FollowsRun c z → settled p c z ≡ plain p.source p.entry (words (length p.cells) z.cells) (Some (ending z))
-settled_is p (go q fs x) z (registers, flag, cells) =
+after_go_is : (p : Plain) (c : Conf) (z : State) → FollowsRun c z → after_go p c z ≡ plain p.source p.entry (words (length p.cells) z.cells) (Some (ending z))
+after_go_is p (go q fs x) z (registers, flag, cells) =
     let ec : words (length p.cells) x.cells ≡ words (length p.cells) z.cells = ap (words (length p.cells)) (sym cells) in
     let er : words 16 x.registers ≡ words 16 z.registers = words_same 16 0 x.registers z.registers (λ r h. sym (registers r (omega arith))) in
     let ef : 0 ≡ z.registers 24 = sym flag in
     λ t. plain p.source p.entry (ec t) (Some (record { registers = er t; fault = ef t }))
-settled_is p (stop q x) z flag =
+after_go_is p (stop q x) z flag =
     let ef : suc q ≡ z.registers 24 = omega (arith, flag) in
     λ t. plain p.source p.entry (words (length p.cells) z.cells) (Some (record { registers = words 16 z.registers; fault = ef t }))
 
@@ -59,7 +59,7 @@ module _ (images : ImagesAccepted) (follow : RunsFollow) where
   go_plain : (room : ℕ) (d : Description) {o r : Option Seated} (entry : List ℕ) (last : Option Ending) → length entry ≡ 16 → From d.rules.hides (length d.cells) o r → is_none r ≡ false
       → takes (Go room) (plain o entry d.cells last) ≡ plain_of o (leaves (Go room) (bench d r entry last))
   go_plain room d entry last low nothing h = differ h
-  go_plain room d entry last low (result s ok small) h = settled_is (plain (Some s) entry d.cells last) (comes s entry d.cells) (result_run s entry d.cells) (follow d.rules.hides s entry d.cells ok low)
+  go_plain room d entry last low (result s ok small) h = after_go_is (plain (Some s) entry d.cells last) (comes s entry d.cells) (result_run s entry d.cells) (follow d.rules.hides s entry d.cells ok low)
 
   takes_left : (c : Call) (o : Option Seated) (b : Bench) → Sound o b → refused c b ≡ None → takes c (plain_of o b) ≡ plain_of (source_after c o) (leaves c b)
   takes_left (Seat image) o b s h = refl
@@ -73,16 +73,12 @@ module _ (images : ImagesAccepted) (follow : RunsFollow) where
   takes_left Outcome o b s h = refl
   takes_left Clear o b s h = refl
 
-  by_refusal : (c : Call) (cs : List Call) (o : Option Seated) (b : Bench) (why : Option Refusal) → refused c b ≡ why → ImageOfBytes c → Sound o b
-      → ((p : Option Seated) (x : Bench) → Sound p x → Follows (plain_of p x) (log cs x) (after_all cs x).memory.cells)
-      → heard (answered why (replies c b)) (Follows (plain_of o b) (log cs (left why b (leaves c b))) (after_all cs (left why b (leaves c b))).memory.cells)
-      (λ a. Says (plain_of o b) c a × Follows (takes c (plain_of o b)) (log cs (left why b (leaves c b))) (after_all cs (left why b (leaves c b))).memory.cells)
-  by_refusal c cs o b (Some e) h small s later = later o b s
-  by_refusal c cs o b None h small s later = (
-    says c o b s h,
-    subst (λ p. Follows p (log cs (leaves c b)) (after_all cs (leaves c b)).memory.cells) (sym (takes_left c o b s h)) (later (source_after c o) (leaves c b) (sound_leaves images c o b small s h)),
-  )
-
-  pub follows : (cs : List Call) (o : Option Seated) (b : Bench) → OfBytes cs → Sound o b → Follows (plain_of o b) (log cs b) (after_all cs b).memory.cells
+  pub follows : (cs : List Call) (o : Option Seated) (b : Bench) → OfBytes cs → Sound o b → PlainAgrees (plain_of o b) (log cs b) (after_all cs b).memory.cells
   follows [] o b small s = refl
-  follows (c ∷ cs) o b small s = by_refusal c cs o b (refused c b) refl small.0 s (λ p x y. follows cs p x small.1 y)
+  follows (c ∷ cs) o b small s =
+      by_refusal images c o b (λ why. PlainAgrees (plain_of o b) (logged c b why ∷ log cs (left why b (leaves c b))) (after_all cs (left why b (leaves c b))).memory.cells) small.0 s
+      (λ e. follows cs o b small.1 s)
+      (λ h t. (
+        says c o b s h,
+        subst (λ p. PlainAgrees p (log cs (leaves c b)) (after_all cs (leaves c b)).memory.cells) (sym (takes_left c o b s h)) (follows cs (source_after c o) (leaves c b) small.1 t),
+      ))

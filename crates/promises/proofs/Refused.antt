@@ -1,29 +1,18 @@
 -- What is known where nothing was refused.
-use Rattle.std.proofs.Common.{◌≡◌, ℕ, Bool, true, false, List, ◌∷◌, Some, None, Option, refl, true≢false, arith}
+use Rattle.std.proofs.Common.{◌≡◌, Bool, true, false, List, ◌∷◌, None, refl, true≢false}
 use Rattle.program.specs.declared.refusal.Reason.{Reason}
-use Rattle.program.specs.declared.refusal.Refusal.{Refusal}
-use Rattle.program.specs.Refusals.{or_else}
-use Rattle.program.proofs.Refusals.{both}
+use Rattle.program.proofs.Refusals.{no_some}
 use Rattle.calls.specs.Calls.{Test, ◌⇒◌, first_of}
-
-pub never : {X : Type 0} {e : Refusal} → ◌≡◌ {A = Option Refusal} (Some e) None → X
-never h = let z : ◌≡◌ {A = ℕ} 0 1 = cc in absurd (omega arith)
 
 pub differ : {X : Type 0} → true ≡ false → X
 differ h = absurd (true≢false h)
 
-pub none_left : (x y : Option Refusal) → or_else x y ≡ None → x ≡ None
-none_left x y h = (both x y h).0
-
-pub none_right : (x y : Option Refusal) → or_else x y ≡ None → y ≡ None
-none_right x y h = (both x y h).1
-
 -- the first test does not hold
 pub fails : (bad : Bool) (why : Reason) (tests : List Test) → first_of ((bad ⇒ why) ∷ tests) ≡ None → bad ≡ false
 fails false why tests h = refl
-fails true why tests h = never h
+fails true why tests h = absurd (no_some h)
 
 -- nor do the rest
 pub rest : (bad : Bool) (why : Reason) (tests : List Test) → first_of ((bad ⇒ why) ∷ tests) ≡ None → first_of tests ≡ None
 rest false why tests h = h
-rest true why tests h = never h
+rest true why tests h = absurd (no_some h)

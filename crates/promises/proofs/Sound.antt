@@ -5,6 +5,7 @@ use Rattle.program.specs.declared.refusal.Reason.TheVariants.{AlreadySeated, Mem
 use Rattle.program.specs.declared.refusal.Refusal.{Refusal}
 use Rattle.program.specs.Headers.{cells_of}
 use Rattle.program.specs.Refusals.{or_else}
+use Rattle.program.proofs.Refusals.{both}
 use Rattle.header.specs.Layout.{header_at}
 use Rattle.image.specs.Images.{image_refusal}
 use Rattle.memory.specs.Description.{Mark, Description}
@@ -15,9 +16,9 @@ use Rattle.calls.specs.declared.Call.TheVariants.{Seat, Put, Arg, Go, Look, Open
 use Rattle.calls.specs.Bytes.{Bytes, ImageOfBytes}
 use Rattle.calls.specs.Benches.{Seated, Bench, new, words, none_seated, base, gone}
 use Rattle.calls.specs.Calls.{◌⇒◌, first_of, source_at, converted, unconverted, unseated, refused, leaves, after}
-use Rattle.promises.specs.Kept.{Accepted, ImagesAccepted}
-use Rattle.promises.proofs.Refused.{none_left, none_right, fails}
-use Rattle.promises.proofs.Words.{words_length}
+use Rattle.promises.specs.Kept.{AcceptedSource, ImagesAccepted}
+use Rattle.promises.proofs.Refused.{fails}
+use Rattle.calls.proofs.Words.{words_length}
 
 -- d with other cells, as many, and other marks
 pub lawful_on : (d : Description) (cells : List ℕ) (seen : List Mark) → length cells ≡ length d.cells → Lawful d → Lawful (record { cells = cells; seen = seen; rules = d.rules })
@@ -34,7 +35,7 @@ lawful_on d cells seen e law = record {
 -- what is seated comes of a source, over so many cells
 pub data From (hides : Bool) (size : ℕ) : Option Seated → Option Seated → Type 0 where
   nothing : From hides size None None
-  result : (s : Seated) → Accepted hides s → cells_of s.header.tables ≤ size → From hides size (Some s) (Some (converted s))
+  result : (s : Seated) → AcceptedSource hides s → cells_of s.header.tables ≤ size → From hides size (Some s) (Some (converted s))
 
 -- a bench whose program comes of that source
 pub record Sound (o : Option Seated) (b : Bench) : Type 0 where
@@ -67,9 +68,9 @@ module _ (images : ImagesAccepted) where
       let y = unconverted b.memory.rules.hides (source_at bs) in
       let tiny = ltb (length b.memory.cells) (cells_of (header_at bs).tables) in
       let z = first_of (tiny ⇒ MemoryTooSmall ∷ []) in
-      let r1 = none_right v (or_else x (or_else y z)) h in
-      let r2 = none_right x (or_else y z) r1 in
-      result (source_at bs) (images b.memory.rules.hides bs small (none_left x (or_else y z) r1) (none_left y z r2)) (ltb-false (length b.memory.cells) (cells_of (header_at bs).tables) (fails tiny MemoryTooSmall [] (none_right y z r2)))
+      let r = both x (or_else y z) (both v (or_else x (or_else y z)) h).1 in
+      let q = both y z r.1 in
+      result (source_at bs) (images b.memory.rules.hides bs small r.0 q.0) (ltb-false (length b.memory.cells) (cells_of (header_at bs).tables) (fails tiny MemoryTooSmall [] q.1))
 
   pub sound_leaves : (c : Call) (o : Option Seated) (b : Bench) → ImageOfBytes c → Sound o b → refused c b ≡ None → Sound (source_after c o) (leaves c b)
   sound_leaves (Seat image) o b small s h = record { lawful = s.lawful; low = s.low; from = seated_from (vec_items image) b small h }
@@ -85,9 +86,14 @@ module _ (images : ImagesAccepted) where
   sound_leaves Outcome o b small s h = s
   sound_leaves Clear o b small s h = record { lawful = lawful_on b.memory _ _ refl s.lawful; low = s.low; from = s.from }
 
-  sound_left : (c : Call) (o : Option Seated) (b : Bench) (why : Option Refusal) → refused c b ≡ why → ImageOfBytes c → Sound o b → Sound (left why o (source_after c o)) (left why b (leaves c b))
-  sound_left c o b (Some e) h small s = s
-  sound_left c o b None h small s = sound_leaves c o b small s h
+  -- what holds of a call where it is refused and where it is accepted, holds of it
+  pub by_refusal : (c : Call) (o : Option Seated) (b : Bench) (P : Option Refusal → Type 0) → ImageOfBytes c → Sound o b
+      → ((e : Refusal) → P (Some e)) → (refused c b ≡ None → Sound (source_after c o) (leaves c b) → P None) → P (refused c b)
+  by_refusal c o b P small s bad good = by (refused c b) refl
+    where
+      by : (why : Option Refusal) → refused c b ≡ why → P why
+      by (Some e) h = bad e
+      by None h = good h (sound_leaves c o b small s h)
 
   pub sound_after : (c : Call) (o : Option Seated) (b : Bench) → ImageOfBytes c → Sound o b → Sound (left (refused c b) o (source_after c o)) (after c b)
-  sound_after c o b small s = sound_left c o b (refused c b) refl small s
+  sound_after c o b small s = by_refusal c o b (λ why. Sound (left why o (source_after c o)) (left why b (leaves c b))) small s (λ e. s) (λ h t. t)

@@ -22,8 +22,8 @@ abbrev pub plain : Option Seated → List ℕ → List ℕ → Option Ending →
 plain s entry cells last = record { source = s; entry = entry; cells = cells; last = last }
 
 -- at first it has the memory's cells
-abbrev pub first : List ℕ → Plain
-first cells = plain None (replicate 16 0) cells None
+abbrev pub first_plain : List ℕ → Plain
+first_plain cells = plain None (replicate 16 0) cells None
 
 -- the cell of index i of table t
 abbrev pub cell_of : Plain → ℕ → ℕ → ℕ
@@ -32,9 +32,9 @@ cell_of p t i = first_cell (or_blank p.source).header.tables t + i
 -- after a go. Where the source reaches its end, its cells and registers stand, and 0. Where it
 -- faults, those stand that a run z of the converted program leaves from the same start, and one more
 -- than the place of the fault.
-abbrev pub settled : Plain → Conf → State → Plain
-settled p (go q fs x) z = plain p.source p.entry (words (length p.cells) x.cells) (Some (ending_of x.registers 0))
-settled p (stop q x) z = plain p.source p.entry (words (length p.cells) z.cells) (Some (ending_of z.registers (suc q)))
+abbrev pub after_go : Plain → Conf → State → Plain
+after_go p (go q fs x) z = plain p.source p.entry (words (length p.cells) x.cells) (Some (ending_of x.registers 0))
+after_go p (stop q x) z = plain p.source p.entry (words (length p.cells) z.cells) (Some (ending_of z.registers (suc q)))
 
 -- what an accepted call makes of it
 abbrev pub takes : Call → Plain → Plain
@@ -42,7 +42,7 @@ takes (Seat image) p = plain (Some (source_at (vec_items image))) p.entry p.cell
 takes (Put t i w) p = plain p.source p.entry (slice_set p.cells (cell_of p t i) w) p.last
 takes (Arg r w) p = plain p.source (slice_set p.entry r w) p.cells p.last
 takes (Go room) p =
-    let s = or_blank p.source in settled p (comes s p.entry p.cells) (state_of (comes (converted s) p.entry p.cells))
+    let s = or_blank p.source in after_go p (comes s p.entry p.cells) (state_of (comes (converted s) p.entry p.cells))
 takes (Look t i) p = p
 takes (Open t i) p = p
 takes Outcome p = p

@@ -3,7 +3,7 @@ use Rattle.std.proofs.lemmas.List.{length-take-le}
 use Rattle.calls.specs.declared.Call.TheVariants.{Go}
 use Rattle.calls.specs.Calls.{visited}
 use Rattle.bench.specs.Views.{view}
-use Rattle.bench.specs.Rooms.{within}
+use Rattle.bench.specs.Calling.{within}
 use Rattle.bench.proofs.Fronts.{front_written}
 use Rattle.bench.proofs.bench.Bench.call.Goals as goal
 

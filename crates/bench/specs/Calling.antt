@@ -1,4 +1,4 @@
--- Room for the visits of a go.
+-- A call that is a value.
 use Rattle.std.specs.Prelude.{ℕ, min}
 use Rattle.calls.specs.declared.Call.{Call}
 use Rattle.calls.specs.declared.Call.TheVariants.{Seat, Put, Arg, Go, Look, Open, Outcome, Clear}
