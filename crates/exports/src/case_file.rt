@@ -46,7 +46,8 @@ fn told(report: &Report) -> Agreed
 #[unsafe(no_mangle)]
 pub extern "C" fn exports_case_file(heap: Global, bytes: &[u8]) -> Agreed
     ensures counted { Told bytes.now result }
-    ensures text { IsUtf8 bytes.now → ¬ (result.number ≡ 254) }
+    ensures text { IsUtf8 bytes.now → ¬ (result.number ≡ 255) → result.number ≡ 0 }
+    ensures no_text { ¬ (IsUtf8 bytes.now) → result.number ≡ 254 }
 {
     let Ok(text) = std::str::from_utf8(bytes) else {
         return failed(NO_TEXT);
