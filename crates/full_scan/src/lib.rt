@@ -73,12 +73,15 @@ impl Layer for FullScan {
 
     ghost clears = { λ _ _. refl };
 
+    // A scan is long, so it stays out of the accesses that go through other layers.
+    #[inline(never)]
     fn read<M: Memory>(&self, below: &mut M, table: Window, off: usize) -> Result<u32, Refusal> {
         let cost = self.cost(below, Access::Read, table.length);
         denial(below.size(), table, off, cost, below.free())?;
         Ok(read_all(below, table, off))
     }
 
+    #[inline(never)]
     fn write<M: Memory>(
         &self,
         below: &mut M,

@@ -90,10 +90,13 @@ impl<L: Layer, M: Memory> Memory for Over<L, M> {
 
     ghost lawful = { λ m. L.Layer.lawful m.layer (M.Memory.model m.below) (M.Memory.lawful m.below) };
 
+    // Without the hints an access makes a call for each layer, and for each that is not there.
+    #[inline(always)]
     fn read(&mut self, table: Window, off: usize) -> Result<u32, Refusal> {
         self.layer.read(&mut self.below, table, off)
     }
 
+    #[inline(always)]
     fn write(&mut self, table: Window, off: usize, word: u32) -> Result<(), Refusal> {
         self.layer.write(&mut self.below, table, off, word)
     }

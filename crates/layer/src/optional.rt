@@ -25,6 +25,7 @@ impl<L: Layer> Layer for Option<L> {
 
     ghost clears = { λ o d. optional_clears L.Layer.over L.Layer.clears o d };
 
+    #[inline(always)]
     fn read<M: Memory>(&self, below: &mut M, table: Window, off: usize) -> Result<u32, Refusal> {
         match self {
             None => below.read(table, off),
@@ -32,6 +33,7 @@ impl<L: Layer> Layer for Option<L> {
         }
     }
 
+    #[inline(always)]
     fn write<M: Memory>(
         &self,
         below: &mut M,

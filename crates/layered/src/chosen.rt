@@ -36,6 +36,7 @@ impl Layer for Chosen {
 
     ghost clears = { chosen_clears };
 
+    #[inline(always)]
     fn read<M: Memory>(&self, below: &mut M, table: Window, off: usize) -> Result<u32, Refusal> {
         match *self {
             Chosen::Scan => FullScan.read(below, table, off),
@@ -43,6 +44,7 @@ impl Layer for Chosen {
         }
     }
 
+    #[inline(always)]
     fn write<M: Memory>(
         &self,
         below: &mut M,
