@@ -104,18 +104,22 @@ fn length(random: &mut Random, long: usize) -> usize {
     }
 }
 
+/// What the rival read, or why it did not.
+type Read<'a> = Result<&'a Program, Refused>;
+
 impl Lists {
     /// Compares all that is made of an image.
     pub fn compare(&mut self, random: &mut Random, image: &[u8], counts: &mut Counts) -> Compared {
         counts.images += 1;
         let read = image::read(image, room()).map_err(given_back);
+        let read = read.as_ref().map_err(|refused| *refused);
         counts.well_formed += usize::from(read.is_ok());
-        self.rewritten(random, image, &read)?;
-        self.labelled(random, image, &read, counts)?;
+        self.rewritten(random, image, read)?;
+        self.labelled(random, image, read, counts)?;
         for hides in [false, true] {
-            self.converted(random, image, &read, hides, counts)?;
+            self.converted(random, image, read, hides, counts)?;
         }
-        self.run(random, image, &read, counts)
+        self.run(random, image, read, counts)
     }
 
     fn fill_bytes(&mut self, length: usize, byte: u8) {
@@ -125,18 +129,11 @@ impl Lists {
         }
     }
 
-    fn rewritten(
-        &mut self,
-        random: &mut Random,
-        image: &[u8],
-        read: &Result<Program, Refused>,
-    ) -> Compared {
+    fn rewritten(&mut self, random: &mut Random, image: &[u8], read: Read) -> Compared {
         let room = length(random, image.len() + 8);
         self.fill_bytes(room, random.any() as u8);
-        let rival = read
-            .as_ref()
-            .map_err(|refused| *refused)
-            .and_then(|program| image::write(program, &mut self.bytes[0]).map_err(told));
+        let rival =
+            read.and_then(|program| image::write(program, &mut self.bytes[0]).map_err(told));
         let our = ours::rewrite(image, &mut self.bytes[1], random.below(2));
         same("read and write", rival, our)?;
         same_list("read and write", &self.bytes)
@@ -146,7 +143,7 @@ impl Lists {
         &mut self,
         random: &mut Random,
         image: &[u8],
-        read: &Result<Program, Refused>,
+        read: Read,
         counts: &mut Counts,
     ) -> Compared {
         let (room, set) = (length(random, SETS), random.any() as u16);
@@ -154,13 +151,10 @@ impl Lists {
             sets.clear();
             sets.resize(room, set);
         }
-        let rival = read
-            .as_ref()
-            .map_err(|refused| *refused)
-            .and_then(|program| {
-                plan(program, &mut self.sets[0]).map_err(told)?;
-                Ok(program.code().len() + 1)
-            });
+        let rival = read.and_then(|program| {
+            plan(program, &mut self.sets[0]).map_err(told)?;
+            Ok(program.code().len() + 1)
+        });
         counts.labelled += usize::from(rival.is_ok());
         let our = ours::plan(image, &mut self.sets[1], random.below(2));
         same("labels", rival, our)?;
@@ -171,19 +165,16 @@ impl Lists {
         &mut self,
         random: &mut Random,
         image: &[u8],
-        read: &Result<Program, Refused>,
+        read: Read,
         hides: bool,
         counts: &mut Counts,
     ) -> Compared {
         let room = length(random, BYTES);
         self.fill_bytes(room, random.any() as u8);
-        let rival = read
-            .as_ref()
-            .map_err(|refused| *refused)
-            .and_then(|source| {
-                let straight = convert(source, hides, self::room()).map_err(given_back)?;
-                image::write(&straight, &mut self.bytes[0]).map_err(told)
-            });
+        let rival = read.and_then(|source| {
+            let straight = convert(source, hides, self::room()).map_err(given_back)?;
+            image::write(&straight, &mut self.bytes[0]).map_err(told)
+        });
         counts.converted += usize::from(rival.is_ok());
         let our = ours::convert(image, hides, &mut self.bytes[1], random.below(2));
         same("conversion", rival, our)?;
@@ -195,10 +186,10 @@ impl Lists {
         &mut self,
         random: &mut Random,
         image: &[u8],
-        read: &Result<Program, Refused>,
+        read: Read,
         counts: &mut Counts,
     ) -> Compared {
-        let most = read.as_ref().map_or(4, |program| program.header().cells());
+        let most = read.map_or(4, |program| program.header().cells());
         let make = Make::named(&generator::make(random, most)).expect("a name that can be read");
         let mut cells = match make.banked {
             true => vec![0; BANKED],
@@ -217,18 +208,14 @@ impl Lists {
             visits.len(),
             random.below(2),
         );
-        let rival = read
-            .as_ref()
-            .map_err(|refused| *refused)
-            .and_then(|program| {
-                let ending =
-                    machine::run(program, memory.as_mut(), &entry, visits).map_err(told)?;
-                Ok(Run {
-                    steps: ending.steps,
-                    marks: ending.marks,
-                    fault: ending.fault,
-                })
-            });
+        let rival = read.and_then(|program| {
+            let ending = machine::run(program, memory.as_mut(), &entry, visits).map_err(told)?;
+            Ok(Run {
+                steps: ending.steps,
+                marks: ending.marks,
+                fault: ending.fault,
+            })
+        });
         counts.run += usize::from(rival.is_ok());
         counts.steps += rival.map_or(0, |run| run.steps);
         same("run", rival, our)?;
