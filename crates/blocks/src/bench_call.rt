@@ -1,11 +1,11 @@
 // Calls of a bench, as lines have them.
+use crate::call_words::words;
 use crate::line_error::LineError;
 use calls::{Call, MOST_VISITS};
 use std::alloc::Global;
 
 pub(crate) fn call_of(heap: Global, text: &str) -> Result<Call, LineError> {
-    let words: Vec<&str> = text.split(' ').collect(heap)?;
-    Ok(match words.as_slice() {
+    Ok(match words(text)?.as_slice() {
         ["seat", image] => Call::Seat {
             image: bytes(heap, image)?,
         },

@@ -12,7 +12,7 @@ use makes::named;
 use makes::named::Unnamed;
 use makes::shown::{Seen, Words};
 use std::alloc::{AllocError, Global};
-use std::fmt;
+use std::{fmt, mem};
 use tally::report::Report;
 
 /// A block whose end is still to come.
@@ -75,11 +75,54 @@ impl<H: Held + Drop> Block<H> {
         }
     }
 
-    /// The block after a line.
-    pub(crate) fn after(self, heap: Global, line: Line) -> Result<Block<H>, AllocError> {
-        let Block { id, state } = self;
-        let state = hold(heap, state, line)?;
-        Ok(Block { id, state })
+    // What is held is long, so a line changes it where it is.
+    /// Holds the block to a line, unless one before it was wrong.
+    pub(crate) fn hold(&mut self, heap: Global, line: Line) -> Result<(), AllocError> {
+        if let State::Wrong { .. } = self.state {
+            return Ok(());
+        }
+        let (asked, expected) = line.parts();
+        let why = match self.got(heap, asked) {
+            Ok(got) => {
+                if got.as_str() == expected {
+                    return Ok(());
+                }
+                let number = line.number;
+                let text = line.text;
+                format!(in heap; "line {number}: expected {text}, got {got}")?
+            }
+            Err(error) => error.text(heap, line)?,
+        };
+        self.state = State::Wrong { why };
+        Ok(())
+    }
+
+    // What is asked for.
+    fn got(&mut self, heap: Global, asked: Asked) -> Result<String, LineError> {
+        let State::Open { held, seen } = &mut self.state else {
+            return Err(LineError::Unreadable);
+        };
+        match asked {
+            Asked::Cells => self.cells(heap),
+            Asked::Seen => {
+                *seen = true;
+                let memory = held.pile();
+                Ok(Seen { memory }.to_string(heap)?)
+            }
+            Asked::Call(words) => held.answer(heap, words),
+        }
+    }
+
+    // The cells, of what is then gone.
+    fn cells(&mut self, heap: Global) -> Result<String, LineError> {
+        let seen = matches!(self.state, State::Open { seen: true, .. });
+        match mem::replace(&mut self.state, State::Emptied { seen }) {
+            State::Open { held, .. } => {
+                let cells = into_cells(into_leaf(held.into_pile()), heap)?;
+                Ok(Words { words: &cells }.to_string(heap)?)
+            }
+            State::Emptied { .. } | State::Wrong { .. } => Err(LineError::Unreadable),
+        }
     }
 }
 
@@ -109,53 +152,4 @@ fn held_of<H: Held>(heap: Global, text: &str) -> Result<H, LineError> {
     let (name, cells) = text.split_once(" cells=").ok_or(Unnamed::Unreadable)?;
     let pile = named::pile(heap, name.parse()?, cells)?;
     Ok(H::over(heap, pile)?)
-}
-
-// Holds a line to what it should be, unless one before it was wrong.
-fn hold<H: Held + Drop>(heap: Global, state: State<H>, line: Line) -> Result<State<H>, AllocError> {
-    if let State::Wrong { why } = state {
-        return Ok(State::Wrong { why });
-    }
-    let (asked, expected) = line.parts();
-    let why = match got(heap, state, asked) {
-        Ok((state, got)) => {
-            if got.as_str() == expected {
-                return Ok(state);
-            }
-            let number = line.number;
-            let text = line.text;
-            format!(in heap; "line {number}: expected {text}, got {got}")?
-        }
-        Err(error) => error.text(heap, line)?,
-    };
-    Ok(State::Wrong { why })
-}
-
-// What is asked for, and the state after it.
-fn got<H: Held + Drop>(
-    heap: Global,
-    state: State<H>,
-    asked: Asked,
-) -> Result<(State<H>, String), LineError> {
-    let State::Open { mut held, seen } = state else {
-        return Err(LineError::Unreadable);
-    };
-    match asked {
-        Asked::Cells => {
-            let cells = into_cells(into_leaf(held.into_pile()), heap)?;
-            let text = Words { words: &cells }.to_string(heap)?;
-            Ok((State::Emptied { seen }, text))
-        }
-        Asked::Seen => {
-            let text = Seen {
-                memory: held.pile(),
-            }
-            .to_string(heap)?;
-            Ok((State::Open { held, seen: true }, text))
-        }
-        Asked::Call(words) => {
-            let text = held.answer(heap, words)?;
-            Ok((State::Open { held, seen }, text))
-        }
-    }
 }

@@ -20,7 +20,7 @@ impl Held for Pile {
     }
 
     fn answer(&mut self, heap: Global, text: &str) -> Result<String, LineError> {
-        let call = call_of(heap, text)?;
+        let call = call_of(text)?;
         Ok(perform(self, call).to_string(heap)?)
     }
 

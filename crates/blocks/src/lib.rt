@@ -8,6 +8,7 @@ ghost use Rattle.blocks.specs.Counts.{begins, closed_at, open_after, blocks_in};
 
 mod bench_call;
 mod block;
+mod call_words;
 mod held;
 mod held_bench;
 mod held_pile;
@@ -80,7 +81,7 @@ fn take_line<H: Held + Drop>(
             },
         )?));
     }
-    let Some(block) = block else {
+    let Some(mut block) = block else {
         let number = line.number;
         differs(report, format!(in heap; "line {number}: not in a block")?)?;
         return Ok(None);
@@ -90,5 +91,6 @@ fn take_line<H: Held + Drop>(
         close(heap, block, missing, report)?;
         return Ok(None);
     }
-    Ok(Some(block.after(heap, line)?))
+    block.hold(heap, line)?;
+    Ok(Some(block))
 }

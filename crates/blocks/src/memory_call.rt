@@ -1,13 +1,12 @@
 // Calls to a memory, as lines have them.
+use crate::call_words::words;
 use crate::line_error::LineError;
 use makes::call::Call;
 use memory::Access;
 use memory::window::Window;
-use std::alloc::Global;
 
-pub(crate) fn call_of(heap: Global, text: &str) -> Result<Call, LineError> {
-    let words: Vec<&str> = text.split(' ').collect(heap)?;
-    Ok(match words.as_slice() {
+pub(crate) fn call_of(text: &str) -> Result<Call, LineError> {
+    Ok(match words(text)?.as_slice() {
         ["read", base, len, off] => Call::Read {
             table: table(base, len)?,
             off: off.parse()?,
