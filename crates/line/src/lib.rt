@@ -43,10 +43,13 @@ impl Layer for Line {
 
     ghost clears = { λ line d. refl };
 
+    // Without the hints an access makes a call for each line, and waits for each answer.
+    #[inline(always)]
     fn read<M: Memory>(&self, below: &mut M, table: Window, off: usize) -> Result<u32, Refusal> {
         below.read(table, off)
     }
 
+    #[inline(always)]
     fn write<M: Memory>(
         &self,
         below: &mut M,
