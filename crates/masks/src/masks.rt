@@ -73,10 +73,18 @@ impl Masks {
         requires { length (opens secrecy (bits secret) self.old.openings place instruction) ≤ 8 }
         ensures { self.new.openings ≡ opens secrecy (bits secret) self.old.openings place instruction }
     {
+        // Most instructions are ops, and an op changes nothing here.
+        if let Instruction::Do { .. } = instruction {
+            return;
+        }
         let label = labelled(instruction, secret);
         if let Ok(closed) = self.openings.pass(instruction, place, label) {
-            self.count += u8::from(label);
-            self.count -= u8::from(closed.is_some_and(|closed| closed.label));
+            if label {
+                self.count += 1;
+            }
+            if closed.is_some_and(|closed| closed.label) {
+                self.count -= 1;
+            }
         }
     }
 }

@@ -8,7 +8,7 @@ ghost use Rattle.labels.specs.Passes.{Ahead, raised, passed, along, flow};
 ghost use Rattle.plan.specs.Planned.{Below};
 ghost use Rattle.labels.specs.Sets.{bits, sets, secret_tables, Grew};
 
-use crate::ways::ways;
+use crate::ways::along_ways;
 use instructions::{Instruction, Op, Value};
 use labels::sets::{has, joined, with};
 use labels::way::Way;
@@ -90,8 +90,9 @@ fn carry(list: &mut [u16], way: Way) -> bool
     raise(list, way.to, set)
 }
 
-// Along ways, one after another.
-fn along(list: &mut [u16], ways: &[Way]) -> bool
+// Along ways, one after another. Each call has a list of its own length.
+#[inline(always)]
+pub(crate) fn along(list: &mut [u16], ways: &[Way]) -> bool
     requires { Each (Below (length list.old)) ways.now }
     ensures sets { sets list.new ≡ along secrecy ways.now (sets list.old) }
     ensures grew { Grew result list.old list.new }
@@ -130,6 +131,6 @@ pub(crate) fn flow(
         | Instruction::Else
         | Instruction::End
         | Instruction::Repeat { .. }
-        | Instruction::Again => along(list, &ways(masks, instruction, place)),
+        | Instruction::Again => along_ways(masks, instruction, list, place),
     }
 }
