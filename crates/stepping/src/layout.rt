@@ -17,7 +17,9 @@ pub struct Layout {
 }
 
 impl Layout {
+    // Where it is not inlined, the arrays are copied once more.
     /// Worked out once for a run.
+    #[inline(always)]
     pub fn new(program: &Program) -> Layout
         ensures jumps { Resolved (code_of program.now) result.jumps }
         ensures windows { Laid program.now.header.tables result.windows }
