@@ -44,3 +44,8 @@ height_strict false false e = refl
 -- there is one rise, from public to secret
 pub one_rise : Rises secrecy 1
 one_rise = record { height = height; bounded = height_most; ordered = height_up; strict = height_strict }
+
+-- with plain labels, what is secret in the one is so in the other
+pub within_true : (a b : Bool) → (a || b) ≡ b → a ≡ true → b ≡ true
+within_true true b h e = cc
+within_true false b h e = cc

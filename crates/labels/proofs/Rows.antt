@@ -1,9 +1,10 @@
 -- What a write to the list does to the sets, and to the room.
-use Rattle.std.proofs.Common.{◌≡◌, ℕ, zero, suc, ◌<◌, ◌≤◌, Bool, true, false, cond, not, ◌||◌, eqb, ◌≢◌, List, [], ◌∷◌, length, get_or, set, sym, refl, ap, ◌∙◌, subst, arith, get_or-set_other, get_or-set_same}
+use Rattle.std.proofs.Common.{◌≡◌, ℕ, zero, suc, ◌<◌, ◌≤◌, Bool, true, false, cond, not, ◌||◌, eqb, ◌≢◌, List, [], ◌∷◌, length, get_or, set, sym, refl, ap, ◌∙◌, subst, ⊎_elim, arith, get_or-set_other, get_or-set_same}
 use mathlib.Core.Path.{fun_ext}
 use lib.Bits.{bit_or, or_add_and}
 use Rattle.std.proofs.lemmas.Nat.{and_le_r}
-use Rattle.std.proofs.lemmas.List.{set-get_or}
+use Rattle.std.proofs.lemmas.List.{set-get_or, get_or_past}
+use Rattle.std.proofs.lemmas.Bool.{cases_lt}
 use Rattle.labels.specs.Kinds.{secrecy}
 use Rattle.labels.specs.Sets.{bits, either, sets, room, Grew}
 use Rattle.labels.specs.Passes.{raised}
@@ -45,3 +46,6 @@ grew_both true true x y z f g = record { same = λ h. let w : ◌≡◌ {A = ℕ
 grew_both true false x y z f g = record { same = λ h. let w : ◌≡◌ {A = ℕ} 0 1 = cc in absurd (omega arith); less = λ h. subst (λ l. room l < room x) (sym (g.same refl)) (f.less refl) }
 grew_both false true x y z f g = record { same = λ h. let w : ◌≡◌ {A = ℕ} 0 1 = cc in absurd (omega arith); less = λ h. subst (λ l. room z < room l) (f.same refl) (g.less refl) }
 grew_both false false x y z f g = record { same = λ h. g.same refl ∙ f.same refl; less = λ h. let w : ◌≡◌ {A = ℕ} 0 1 = cc in absurd (omega arith) }
+
+pub all_zero : (l : List ℕ) (n : ℕ) → length l ≤ n → ((j : ℕ) → j < n → ◌≡◌ {A = ℕ} (get_or l j 0) 0) → (k : ℕ) → ◌≡◌ {A = ℕ} (get_or l k 0) 0
+all_zero l n h f k = ⊎_elim (λ (x : k < n). f k x) (λ (x : n ≤ k). get_or_past l k 0 (omega arith)) (cases_lt k n)

@@ -1,5 +1,5 @@
 -- The laws of a layer that is chosen at run time.
-use Rattle.std.specs.Prelude.{◌≡◌, min, length, refl}
+use Rattle.std.specs.Prelude.{◌≡◌, min, length, refl, Option, Some, None}
 use Rattle.std.proofs.Common.{sym}
 use Rattle.memory.specs.Description.{Description, free, cleared}
 use Rattle.memory.specs.Laws.{Lawful}
@@ -7,11 +7,16 @@ use Rattle.full_scan.specs.Costs.{scan_lawful}
 use Rattle.line.specs.Lines.{line_lawful, line_free, line_counted}
 use Rattle.layered.specs.declared.chosen.Chosen.{Chosen}
 use Rattle.layered.specs.declared.chosen.Chosen.TheVariants.{Scan, Line}
-use Rattle.layered.specs.Layers.{over_chosen}
+use Rattle.layered.specs.Layers.{over_chosen, over}
 
 pub chosen_lawful : (l : Chosen) (d : Description) → Lawful d → Lawful (over_chosen l d)
 chosen_lawful Scan d laws = scan_lawful d laws
 chosen_lawful (Line exponent) d laws = line_lawful (min exponent 6) d laws
+
+-- a layer that is chosen, or none, keeps the laws
+pub over_lawful : (o : Option Chosen) (d : Description) → Lawful d → Lawful (over o d)
+over_lawful None d laws = laws
+over_lawful (Some l) d laws = chosen_lawful l d laws
 
 pub chosen_sized : (l : Chosen) (d : Description) → length (over_chosen l d).cells ≡ length d.cells
 chosen_sized Scan d = refl

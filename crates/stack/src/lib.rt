@@ -5,7 +5,7 @@ ghost use Rattle.std.specs.Prelude.{◌≡◌, ℕ, ◌≤◌, [], ◌∷◌, le
 ghost use Rattle.stack.specs.Items.{items, top, below, swapped};
 
 /// The most openings that are open together.
-const DEEPEST: usize = 8;
+pub const DEEPEST: usize = 8;
 
 /// There is no room for one more.
 #[derive(Clone, Copy, PartialEq, Eq, Debug)]
